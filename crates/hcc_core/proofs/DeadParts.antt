@@ -15,7 +15,7 @@ use Rattle.hcc_core.specs.Lawful.{shown_in, is_in}
 use Rattle.hcc_core.proofs.ListLemmas.{read_here, read_other}
 
 -- two stamps that test alike are one
-same_stamp : (a b : Stamp) → is_stamp a b ≡ true → a ≡ b
+pub same_stamp : (a b : Stamp) → is_stamp a b ≡ true → a ≡ b
 same_stamp a b h =
     let parts = and_parts (a.client == b.client) (a.number == b.number) h in
     let client = eqb-true a.client b.client parts.0 in

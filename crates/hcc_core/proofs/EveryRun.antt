@@ -304,6 +304,11 @@ given_same w shows shows' same g = record {
       ap gave (sym (same e.stamp.client)) ∙ g.entries s e h;
 }
 
+-- how many events are in a list of one, where it is one
+pub one_more : (event : Event) (b : Bool) → length (cond b (event ∷ []) []) ≡ when b 1
+one_more event true = refl
+one_more event false = refl
+
 -- a step that is made
 made_given : (w : State) (event : Event) (w' : State) (shows : ℕ → List Event) → Given w shows
     → Adds w event w' → Given w' (λ c. shows c ++ cond (is_show c event) (event ∷ []) [])
@@ -312,7 +317,7 @@ made_given w event w' shows g adds = record {
       let all = length-append (shows c) (cond (is_show c event) (event ∷ []) []) in
       let before = g.counts c in
       let now = adds.counts c in
-      let more = one_more (is_show c event) in
+      let more = one_more event (is_show c event) in
       omega arith;
   entries = λ s e h. elim (adds.entries s e h) [
     | inl old ↦
@@ -325,10 +330,6 @@ made_given w event w' shows g adds = record {
         rw new.shown (ap (option_and_then (entry_given e.stamp)) last ∙ new.given)
   ];
 }
-  where
-    one_more : (b : Bool) → length (cond b (event ∷ []) []) ≡ when b 1
-    one_more true = refl
-    one_more false = refl
 
 outcome_given : (w : State) (event : Event) (outcome : Outcome) (shows : ℕ → List Event)
     → Given w shows

@@ -20,4 +20,5 @@ pub mod Moves
 pub mod EventMoves
 pub mod Shows
 pub mod EveryRun
+pub mod Insertions
 pub mod SpareUses

@@ -3,7 +3,7 @@ use Rattle.std.proofs.Common.{◌≡◌, ◌⊎◌, inl, inr, ℕ, zero, suc, �
 use Rattle.std.proofs.Common.{[], ◌∷◌, ◌++◌, Option, None, Some, slice_get, slice_set, sum_by}
 use Rattle.std.proofs.Common.{replicate, refl, ◌∙◌, ap, arith}
 use Rattle.std.proofs.lemmas.List.Sums.{sum_by-cons}
-use Rattle.std.proofs.lemmas.Bool.{cases_eq}
+use Rattle.std.proofs.lemmas.Bool.{cases_eq, cases_lt}
 use Rattle.hcc_core.specs.Sums.{total, total_below}
 
 -- std's sum of a chain is the total
@@ -123,3 +123,55 @@ pub total_below-both : (f g : ℕ → ℕ) (n : ℕ)
     → total_below (λ k. f k + g k) n ≡ total_below f n + total_below g n
 total_below-both f g zero = refl
 total_below-both f g (suc n) = let rest = total_below-both f g n in omega arith
+
+-- and of what is none but at one number it is at most what that one gives
+pub total_below-most : (f : ℕ → ℕ) (n k : ℕ) → ((j : ℕ) → (j ≡ k → ⊥) → f j ≡ 0)
+    → total_below f n ≤ f k
+total_below-most f n k h = elim (cases_lt k n) [
+  | inl less ↦ let one = total_below-one f n k less h in omega arith
+  | inr past ↦
+      let none = total_below-none f n (λ j low. h j (λ same. omega arith)) in
+      omega arith
+]
+
+-- what one number gives is within the sum
+pub total_below-member : (f : ℕ → ℕ) (n k : ℕ) → k < n → f k ≤ total_below f n
+total_below-member f zero k less = absurd (omega arith)
+total_below-member f (suc n) k less = elim (cases_eq n k) [
+  | inl e ↦ let last = ap f e in omega arith
+  | inr other ↦ let rest = total_below-member f n k (omega arith) in omega arith
+]
+
+-- Totals of members that count once.
+
+pub total-nothing : {X : Type 0} (f : X → ℕ) (xs : List X)
+    → ((i : ℕ) (x : X) → slice_get xs i ≡ Some x → f x ≡ 0) → total f xs ≡ 0
+total-nothing f [] h = refl
+total-nothing f (x ∷ xs) h =
+    let first = h 0 x refl in
+    let rest = total-nothing f xs (λ i y at. h (suc i) y at) in
+    omega arith
+
+-- where no two members count, and none counts more than once
+pub total-once : {X : Type 0} (f : X → ℕ) (xs : List X)
+    → ((x : X) → f x ≤ 1)
+    → ((i j : ℕ) (x y : X) → slice_get xs i ≡ Some x → slice_get xs j ≡ Some y → f x ≡ 1
+    → f y ≡ 1 → i ≡ j)
+    → total f xs ≤ 1
+total-once f [] few apart = omega arith
+total-once {X = X} f (x ∷ xs) few apart = elim (cases_eq (f x) 1) [
+  | inl one ↦
+      let rest = total-nothing f xs (none one) in
+      omega arith
+  | inr other ↦
+      let first = few x in
+      let rest = total-once f xs few (λ i j y z at at' one two.
+      let next = apart (suc i) (suc j) y z at at' one two in omega arith) in
+      omega arith
+]
+  where
+    none : f x ≡ 1 → (i : ℕ) (y : X) → slice_get xs i ≡ Some y → f y ≡ 0
+    none one i y at = elim (cases_eq (f y) 1) [
+      | inl two ↦ absurd (let bad = apart 0 (suc i) x y refl at one two in omega arith)
+      | inr other ↦ let most = few y in omega arith
+    ]

@@ -14,7 +14,7 @@ ghost use Rattle.hcc_core.specs.References.{slot_acquired, slot_used};
 ghost use Rattle.hcc_core.specs.Uses.{slot_with_uses};
 ghost use Rattle.hcc_core.specs.Steps.{outcome_of};
 ghost use Rattle.hcc_core.specs.Lawful.{Lawful};
-ghost use Rattle.hcc_core.specs.Runs.{AreGiven, CountersFit, FindsOne, KeepsPlaces, StandsBetween, after_all, held_at, takes_away};
+ghost use Rattle.hcc_core.specs.Runs.{AreBalanced, AreGiven, AreGone, AreOnce, CountersFit, FindsOne, KeepsPlaces, StandsBetween, after_all, held_at, takes_away};
 ghost use Rattle.hcc_core.specs.Opening.{CanOpen, opening_of};
 
 /// What holds of every world on the way of every run from an opening world, whatever events come
@@ -55,6 +55,26 @@ pub fn law_every_run()
     // gave: of its shows that were allowed, from 0.
     ensures entries { (setup : Setup) (events : List Event)
         → AreGiven (opening_of setup) events }
+{}
+
+/// Where entries are: each that was shown stands in one slot, or was taken once, by the free of its
+/// slot. From any lawful world, as every world of every run from an opening world is, and
+/// whatever events come.
+///
+/// It does nothing when it runs: its contract is the law.
+pub fn law_every_entry()
+    // However entries are weighed, what stands in the slots after the events and what the clients
+    // freed weigh what stood in the slots before and what the clients showed.
+    ensures balance { (world : State) (events : List Event) → Lawful world
+        → AreBalanced world events }
+
+    // An entry that was shown stands in one slot after the events, once, or was freed by one of
+    // them, once.
+    ensures once { (world : State) (events : List Event) → Lawful world → AreOnce world events }
+
+    // An entry that was freed stands in no slot after the events, and nobody holds a reference on
+    // it.
+    ensures gone { (world : State) (events : List Event) → Lawful world → AreGone world events }
 {}
 
 /// Which uses the clock can't see. A visit leaves [`MOST_CLOCKED`](crate::limits::MOST_CLOCKED)
