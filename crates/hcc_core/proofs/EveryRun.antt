@@ -341,7 +341,7 @@ outcome_given w event (Err error) shows g added =
     given_same w shows _ (λ c. sym (append-nil (shows c))) g
 
 -- after any event, refused or not
-after_given : (w : State) (event : Event) (shows : ℕ → List Event) → Given w shows
+pub after_given : (w : State) (event : Event) (shows : ℕ → List Event) → Given w shows
     → Given (after w event) (λ c. shows c ++ shows_in c w event)
 after_given w event shows g =
     outcome_given w event (outcome_of w event) shows g (outcome_adds w event)
@@ -355,7 +355,7 @@ all_given (event ∷ events) w shows g =
     given_same _ _ _ (λ c. append_assoc (shows c) (shows_in c w event) (shows_of c next events))
     (all_given events next (λ c. shows c ++ shows_in c w event) (after_given w event shows g))
 
-given_opening : (setup : Setup) → Given (opening_of setup) (λ c. [])
+pub given_opening : (setup : Setup) → Given (opening_of setup) (λ c. [])
 unfolding opening_of
 given_opening setup = record {
   counts = λ c.

@@ -1,15 +1,17 @@
 -- What stands in slots after a run, with what was freed in it, weighs what stood in them before and
 -- what was shown. So each entry that was shown stands in one slot or was freed once, and one that was
 -- freed is gone.
-use Rattle.std.proofs.Common.{◌≡◌, ◌⊎◌, inl, inr, ℕ, zero, suc, ◌+◌, ◌<◌, ◌≤◌, ◌&&◌, Bool, true}
+use Rattle.std.proofs.Common.{◌≡◌, ◌⊎◌, inl, inr, ℕ, zero, suc, ◌+◌, ◌<◌, ◌≤◌, ◌&&◌, ◌==◌, Bool, true}
 use Rattle.std.proofs.Common.{false, cond, List, [], ◌∷◌, ◌++◌, Option, Some, None, Ok, Err, length}
 use Rattle.std.proofs.Common.{slice_get, refl, sym, ap, ◌∙◌, arith}
 use Rattle.std.specs.Prelude.{option_and_then, option_to_list}
 use Rattle.std.specs.List.{list_any}
 use Rattle.std.proofs.lemmas.Bool.{cases_eq, cases_lt, eq-eqb, ne_eqb, false≢true}
+use Rattle.std.proofs.lemmas.List.{append_assoc}
 use Rattle.std.proofs.lemmas.Option.{slice_get_past}
 use Rattle.hcc_core.specs.declared.event.Event.{Event}
 use Rattle.hcc_core.specs.declared.event.Event.TheVariants as events
+use Rattle.hcc_core.specs.declared.setup.Setup.{Setup}
 use Rattle.hcc_core.specs.declared.slot.Entry.{Entry}
 use Rattle.hcc_core.specs.declared.slot.Slot.{Slot}
 use Rattle.hcc_core.specs.declared.slot.Slot.TheVariants as slots
@@ -19,19 +21,22 @@ use Rattle.hcc_core.specs.World.{State, stamp_of, has_reference}
 use Rattle.hcc_core.specs.Outcomes.{Outcome, is_made}
 use Rattle.hcc_core.specs.References.{is_stamp}
 use Rattle.hcc_core.specs.Steps.{outcome_of}
+use Rattle.hcc_core.specs.Opening.{opening_of}
 use Rattle.hcc_core.specs.Lawful.{Lawful, stamps_by, stamp_in}
 use Rattle.hcc_core.specs.Runs.{world_after, after, after_all, entry_of, entry_at, entry_held}
 use Rattle.hcc_core.specs.Runs.{held_at, is_show, shows_in, shows_of, entry_given, numbered}
 use Rattle.hcc_core.specs.Runs.{entries_shown, entry_freed, frees_in, frees_of, slot_weighs}
 use Rattle.hcc_core.specs.Runs.{slots_weigh, shows_weigh, frees_weigh, AreBalanced, is_of, counts_of}
-use Rattle.hcc_core.specs.Runs.{AreOnce, IsGone, AreGone}
+use Rattle.hcc_core.specs.Runs.{AreOnce, IsGone, AreGone, FreesAreGiven}
+use Rattle.hcc_core.proofs.ListLemmas.{read_before}
 use Rattle.hcc_core.proofs.SumLemmas.{sum_at, total-append, total-member, total-once, total-nothing}
 use Rattle.hcc_core.proofs.SumLemmas.{total_below-same, total_below-none, total_below-both}
 use Rattle.hcc_core.proofs.SumLemmas.{total_below-most, total_below-member}
 use Rattle.hcc_core.proofs.DeadParts.{same_stamp}
 use Rattle.hcc_core.proofs.HeldNames.{any_counts}
 use Rattle.hcc_core.proofs.Shows.{Adds, Added, outcome_adds, entry_shown, shown_weighs, freed_weighs}
-use Rattle.hcc_core.proofs.EveryRun.{lawful_after, one_more}
+use Rattle.hcc_core.proofs.EveryRun.{lawful_after, one_more, given_by, Given, after_given}
+use Rattle.hcc_core.proofs.EveryRun.{given_opening}
 
 -- One event.
 
@@ -424,3 +429,65 @@ freed_are_gone w events l c stamp some = record {
         by : (b : Bool) → when b 1 ≤ 0 → b ≡ false
         by true few = absurd (omega arith)
         by false few = refl
+
+-- What was freed.
+
+-- a member of two lists together is one of the first or of the second
+in_either : {X : Type 0} (xs ys : List X) (i : ℕ) (x : X) → slice_get (xs ++ ys) i ≡ Some x
+    → (slice_get xs i ≡ Some x) ⊎ ((j : ℕ) × (slice_get ys j ≡ Some x))
+in_either [] ys i x h = inr (i, h)
+in_either (z ∷ zs) ys zero x h = inl h
+in_either (z ∷ zs) ys (suc i) x h = in_either zs ys i x h
+
+-- an entry that an event frees stood in a slot before it
+freed_stood : (client : ℕ) (w : State) (event : Event) (entry : Entry)
+    → entry_freed client w event ≡ Some entry → (slot : ℕ) × (entry_at w slot ≡ Some entry)
+freed_stood client w (events.Free taker slot name) entry h = by (taker == client) h
+  where
+    by : (b : Bool) → cond b (entry_at w slot) None ≡ Some entry
+        → (slot : ℕ) × (entry_at w slot ≡ Some entry)
+    by true h = (slot, h)
+    by false h = cc
+freed_stood client w other entry h = cc
+
+listed_freed : (client : ℕ) (w : State) (event : Event) (outcome : Outcome) (i : ℕ) (entry : Entry)
+    → slice_get (frees_then client w event outcome) i ≡ Some entry
+    → entry_freed client w event ≡ Some entry
+listed_freed client w event (Ok done) i entry h = by (entry_freed client w event) i h
+  where
+    by : (o : Option Entry) (i : ℕ) → slice_get (option_to_list o) i ≡ Some entry → o ≡ Some entry
+    by None i h = cc
+    by (Some found) zero h = h
+    by (Some found) (suc i) h = cc
+listed_freed client w event (Err error) i entry h = cc
+
+-- with these shows of each client so far, what is freed in a run is what its show gave
+freed_given : (events : List Event) (w : State) (shows : ℕ → List Event) → Given w shows
+    → (client i : ℕ) (entry : Entry) → slice_get (frees_of client w events) i ≡ Some entry
+    → given_by (λ c. shows c ++ shows_of c w events) entry.stamp ≡ Some entry
+freed_given [] w shows g client i entry h = cc
+freed_given (event ∷ events) w shows g client i entry h =
+    elim (in_either (frees_in client w event) (frees_of client next events) i entry h) [
+      | inl now ↦
+          let stood = freed_stood client w event entry
+          (listed_freed client w event (outcome_of w event) i entry now) in
+          read_before (entry_given entry.stamp) (shows entry.stamp.client)
+          _ entry.stamp.number entry (g.entries stood.0 entry stood.1)
+      | inr later ↦
+          let rest = freed_given events next (λ c. shows c ++ shows_in c w event)
+          (after_given w event shows g) client later.0 entry later.1 in
+          let c : ℕ = entry.stamp.client in
+          let same = append_assoc (shows c) (shows_in c w event) (shows_of c next events) in
+          ap gave (sym same) ∙ rest
+    ]
+  where
+    next : State
+    next = after w event
+
+    gave : List Event → Option Entry
+    gave list = option_and_then (entry_given entry.stamp) (slice_get list entry.stamp.number)
+
+pub frees_are_given : (setup : Setup) (events : List Event)
+    → FreesAreGiven (opening_of setup) events
+frees_are_given setup events =
+    freed_given events (opening_of setup) (λ c. []) (given_opening setup)

@@ -187,6 +187,13 @@ frees_of client world [] = []
 frees_of client world (event ∷ events) =
     frees_in client world event ++ frees_of client (after world event) events
 
+-- each entry that was freed is what the show of its stamp gave
+abbrev pub FreesAreGiven : State → List Event → Type 0
+FreesAreGiven world events =
+    (client number : ℕ) (entry : Entry)
+    → slice_get (frees_of client world events) number ≡ Some entry
+    → given_as entry.stamp world events ≡ Some entry
+
 -- What a weighing of entries finds in a slot, in a world, and in what all clients of a world showed
 -- or freed in a run.
 

@@ -14,7 +14,7 @@ ghost use Rattle.hcc_core.specs.References.{slot_acquired, slot_used};
 ghost use Rattle.hcc_core.specs.Uses.{slot_with_uses};
 ghost use Rattle.hcc_core.specs.Steps.{outcome_of};
 ghost use Rattle.hcc_core.specs.Lawful.{Lawful};
-ghost use Rattle.hcc_core.specs.Runs.{AreBalanced, AreGiven, AreGone, AreOnce, CountersFit, FindsOne, KeepsPlaces, StandsBetween, after_all, held_at, takes_away};
+ghost use Rattle.hcc_core.specs.Runs.{AreBalanced, AreGiven, AreGone, AreOnce, CountersFit, FindsOne, FreesAreGiven, KeepsPlaces, StandsBetween, after_all, held_at, takes_away};
 ghost use Rattle.hcc_core.specs.Opening.{CanOpen, opening_of};
 
 /// What holds of every world on the way of every run from an opening world, whatever events come
@@ -75,6 +75,10 @@ pub fn law_every_entry()
     // An entry that was freed stands in no slot after the events, and nobody holds a reference on
     // it.
     ensures gone { (world : State) (events : List Event) → Lawful world → AreGone world events }
+
+    // In a run from an opening world, an entry that was freed is what the show of its stamp gave.
+    ensures given { (setup : Setup) (events : List Event)
+        → FreesAreGiven (opening_of setup) events }
 {}
 
 /// Which uses the clock can't see. A visit leaves [`MOST_CLOCKED`](crate::limits::MOST_CLOCKED)
