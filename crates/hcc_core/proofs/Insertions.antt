@@ -6,7 +6,7 @@ use Rattle.std.proofs.Common.{false, cond, List, [], ◌∷◌, ◌++◌, Option
 use Rattle.std.proofs.Common.{slice_get, refl, sym, ap, ◌∙◌, arith}
 use Rattle.std.specs.Prelude.{option_and_then, option_to_list}
 use Rattle.std.specs.List.{list_any}
-use Rattle.std.proofs.lemmas.Bool.{cases_eq, cases_lt, eq-eqb, ne_eqb, false≢true}
+use Rattle.std.proofs.lemmas.Bool.{cases_eq, cases_lt, false≢true}
 use Rattle.std.proofs.lemmas.List.{append_assoc}
 use Rattle.std.proofs.lemmas.Option.{slice_get_past}
 use Rattle.hcc_core.specs.declared.event.Event.{Event}
@@ -19,22 +19,21 @@ use Rattle.hcc_core.specs.declared.slot.Stamp.{Stamp}
 use Rattle.hcc_core.specs.Sums.{when, total, total_below}
 use Rattle.hcc_core.specs.World.{State, stamp_of, has_reference}
 use Rattle.hcc_core.specs.Outcomes.{Outcome, is_made}
-use Rattle.hcc_core.specs.References.{is_stamp}
 use Rattle.hcc_core.specs.Steps.{outcome_of}
 use Rattle.hcc_core.specs.Opening.{opening_of}
 use Rattle.hcc_core.specs.Lawful.{Lawful, stamps_by, stamp_in}
 use Rattle.hcc_core.specs.Runs.{world_after, after, after_all, entry_of, entry_at, entry_held}
-use Rattle.hcc_core.specs.Runs.{held_at, is_show, shows_in, shows_of, entry_given, numbered}
+use Rattle.hcc_core.specs.Runs.{is_show, shows_in, shows_of, entry_given, numbered}
 use Rattle.hcc_core.specs.Runs.{entries_shown, entry_freed, frees_in, frees_of, slot_weighs}
-use Rattle.hcc_core.specs.Runs.{slots_weigh, shows_weigh, frees_weigh, AreBalanced, is_of, counts_of}
-use Rattle.hcc_core.specs.Runs.{AreOnce, IsGone, AreGone, FreesAreGiven}
+use Rattle.hcc_core.specs.Runs.{slots_weigh, shows_weigh, AreBalanced, is_of, counts_of}
+use Rattle.hcc_core.specs.Runs.{AreOnce, AreGone, FreesAreGiven}
 use Rattle.hcc_core.proofs.ListLemmas.{read_before}
 use Rattle.hcc_core.proofs.SumLemmas.{sum_at, total-append, total-member, total-once, total-nothing}
 use Rattle.hcc_core.proofs.SumLemmas.{total_below-same, total_below-none, total_below-both}
 use Rattle.hcc_core.proofs.SumLemmas.{total_below-most, total_below-member}
 use Rattle.hcc_core.proofs.DeadParts.{same_stamp}
 use Rattle.hcc_core.proofs.HeldNames.{any_counts}
-use Rattle.hcc_core.proofs.Shows.{Adds, Added, outcome_adds, entry_shown, shown_weighs, freed_weighs}
+use Rattle.hcc_core.proofs.Shows.{Added, outcome_adds, entry_shown}
 use Rattle.hcc_core.proofs.EveryRun.{lawful_after, one_more, given_by, Given, after_given}
 use Rattle.hcc_core.proofs.EveryRun.{given_opening}
 

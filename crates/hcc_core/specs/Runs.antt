@@ -213,8 +213,8 @@ abbrev pub frees_weigh : (Entry → ℕ) → State → List Event → ℕ
 frees_weigh h world events =
     total_below (λ client. total h (frees_of client world events)) (length world.clients)
 
--- however entries are weighed, those after the events and those that were freed weigh what those
--- before the events and those that were shown do
+-- however entries are weighed, those in slots after the events and those that were freed weigh what
+-- those in slots before and those that were shown do
 abbrev pub AreBalanced : State → List Event → Type 0
 AreBalanced world events =
     (h : Entry → ℕ)
@@ -228,7 +228,8 @@ is_of stamp entry = is_stamp stamp entry.stamp
 abbrev pub counts_of : Stamp → Entry → ℕ
 counts_of stamp entry = when (is_of stamp entry) 1
 
--- each entry that was shown stands in one slot after the events or was freed by one of them, once
+-- each entry that was shown, by its stamp, stands in one slot after the events or was freed by one of
+-- them, once
 abbrev pub AreOnce : State → List Event → Type 0
 AreOnce world events =
     (client : ℕ) (stamp : Stamp)

@@ -14,7 +14,8 @@ ghost use Rattle.hcc_core.specs.References.{slot_acquired, slot_used};
 ghost use Rattle.hcc_core.specs.Uses.{slot_with_uses};
 ghost use Rattle.hcc_core.specs.Steps.{outcome_of};
 ghost use Rattle.hcc_core.specs.Lawful.{Lawful};
-ghost use Rattle.hcc_core.specs.Runs.{AreBalanced, AreGiven, AreGone, AreOnce, CountersFit, FindsOne, FreesAreGiven, KeepsPlaces, StandsBetween, after_all, held_at, takes_away};
+ghost use Rattle.hcc_core.specs.Runs.{AreGiven, CountersFit, FindsOne, KeepsPlaces, StandsBetween, after_all, held_at, takes_away};
+ghost use Rattle.hcc_core.specs.Runs.{AreBalanced, AreGone, AreOnce, FreesAreGiven};
 ghost use Rattle.hcc_core.specs.Opening.{CanOpen, opening_of};
 
 /// What holds of every world on the way of every run from an opening world, whatever events come
@@ -57,14 +58,14 @@ pub fn law_every_run()
         → AreGiven (opening_of setup) events }
 {}
 
-/// Where entries are: each that was shown stands in one slot, or was taken once, by the free of its
-/// slot. From any lawful world, as every world of every run from an opening world is, and
-/// whatever events come.
+/// Where entries are: each that is shown in a run stands in one slot after it, or was taken once, by
+/// a free of that slot. The run may begin in any lawful world, as each world of a run from an opening
+/// world is; whatever events come, and in whatever order.
 ///
 /// It does nothing when it runs: its contract is the law.
 pub fn law_every_entry()
-    // However entries are weighed, what stands in the slots after the events and what the clients
-    // freed weigh what stood in the slots before and what the clients showed.
+    // However entries are weighed, those in the slots after the events and those that clients freed
+    // weigh together what those in the slots before and those that clients showed do.
     ensures balance { (world : State) (events : List Event) → Lawful world
         → AreBalanced world events }
 
