@@ -43,8 +43,7 @@ use Rattle.hcc_core.proofs.SumLemmas.{sum_at}
 use Rattle.hcc_core.proofs.Moves.{Moves, Turns, called, one_name, still, client_moves, slot_moves}
 use Rattle.hcc_core.proofs.Moves.{emptied, taken, given, used, hid, marked, recounted, got}
 
--- what the world after moved, where the step is made, and where these names may go and this entry is
--- lost
+-- what the world after moved, where the step is made, these names may go and this entry is lost
 abbrev pub MovedBut : (ℕ → ℕ → Bool) → Option Entry → State → Outcome → Type 0
 MovedBut gone lost w (Ok done) = Moves gone lost w done.1
 MovedBut gone lost w (Err error) = Unit {0}
@@ -291,7 +290,8 @@ pub free_moves : (w : State) (client slot : ℕ) (name : Option ℕ)
     → MovedBut (λ c n. is_by_name c n client name) (entry_at w slot) w (free_of w client slot name)
 unfolding free_of
 free_moves w client slot name =
-    chain_but _ _ w (slot_at w slot) _ (λ seen at. chain_but _ _ w (live_at w client) _ (λ found live.
+    chain_but _ _ w (slot_at w slot) _ (λ seen at.
+    chain_but _ _ w (live_at w client) _ (λ found live.
     chain_but _ _ w (allow (may_free client found seen name)) _ (λ u may.
     both_move w slot client seen _ found _ at live
     (taken w _ client 0 (λ l. freed client found seen name (may_ok _ u may))

@@ -1,6 +1,6 @@
 -- What stands in slots after a run, with what was freed in it, weighs what stood in them before and
--- what was shown. So each entry that was shown stands in one slot or was freed once, and one that was
--- freed is gone.
+-- what was shown. So each entry that was shown stands in one slot or was freed once, and one that
+-- was freed is gone.
 use Rattle.std.proofs.Common.{◌≡◌, ◌⊎◌, inl, inr, ℕ, zero, suc, ◌+◌, ◌<◌, ◌≤◌, ◌&&◌, ◌==◌, Bool, true}
 use Rattle.std.proofs.Common.{false, cond, List, [], ◌∷◌, ◌++◌, Option, Some, None, Ok, Err, length}
 use Rattle.std.proofs.Common.{slice_get, refl, sym, ap, ◌∙◌, arith}
@@ -64,7 +64,8 @@ given_weighs h (Some entry) = omega arith
 show_weighs : (h : Entry → ℕ) (c k : ℕ) (event : Event) (b : Bool)
     → total h (numbered c k (cond b (event ∷ []) []))
     ≡ sum_at h (cond b (entry_given (record { client = c; number = k }) event) None)
-show_weighs h c k event true = given_weighs h (entry_given (record { client = c; number = k }) event)
+show_weighs h c k event true =
+    given_weighs h (entry_given (record { client = c; number = k }) event)
 show_weighs h c k event false = refl
 
 -- what all clients' frees of an event of this outcome weigh, and their shows
@@ -275,7 +276,8 @@ numbered_other stamp c k [] past = refl
 numbered_other stamp c k (event ∷ events) past =
     let o = entry_given (record { client = c; number = k }) event in
     let all = total-append (counts_of stamp) (option_to_list o) (numbered c (k + 1) events) in
-    let rest = numbered_other stamp c (k + 1) events (λ same. let less = past same in omega arith) in
+    let rest = numbered_other stamp c (k + 1) events
+    (λ same. let less = past same in omega arith) in
     elim (shown_counts stamp (record { client = c; number = k }) o
     (given_stamp (record { client = c; number = k }) event)) [
       | inl none ↦ omega arith

@@ -350,7 +350,8 @@ rule_adds w (events.Acquire client slot weight name) =
     quiet w _ _ (λ c. (refl, refl)) (acquire_moves w client slot weight name)
 rule_adds w (events.Give client name) = ends w _ _ (λ c. (refl, refl)) (give_moves w client name)
 rule_adds w (events.Use client name) = ends w _ _ (λ c. (refl, refl)) (use_moves w client name)
-rule_adds w (events.Occupy client slot) = quiet w _ _ (λ c. (refl, refl)) (occupy_moves w client slot)
+rule_adds w (events.Occupy client slot) =
+    quiet w _ _ (λ c. (refl, refl)) (occupy_moves w client slot)
 rule_adds w (events.Show client key0 key1 charge countdown name value) =
     show_adds w client key0 key1 charge countdown name value
 rule_adds w (events.Hide client name) = quiet w _ _ (λ c. (refl, refl)) (hide_moves w client name)
@@ -360,13 +361,15 @@ rule_adds w (events.Empty client) = quiet w _ _ (λ c. (refl, refl)) (empty_move
 rule_adds w (events.Write client) = quiet w _ _ (λ c. (refl, refl)) (write_moves w client)
 rule_adds w (events.Read client name) = quiet w _ _ (λ c. (refl, refl)) (read_moves w client name)
 rule_adds w (events.Enter client) = quiet w _ _ (λ c. (refl, refl)) (enter_moves w client)
-rule_adds w (events.Charge client charge) = quiet w _ _ (λ c. (refl, refl)) (charge_moves w client charge)
+rule_adds w (events.Charge client charge) =
+    quiet w _ _ (λ c. (refl, refl)) (charge_moves w client charge)
 rule_adds w (events.Slots client) = quiet w _ _ (λ c. (refl, refl)) (slots_moves w client)
 rule_adds w (events.Settle client) = quiet w _ _ (λ c. (refl, refl)) (settle_moves w client)
 rule_adds w (events.End client) = quiet w _ _ (λ c. (refl, refl)) (end_moves w client)
 rule_adds w (events.Clock client slot) = quiet w _ _ (λ c. (refl, refl)) (clock_moves w client slot)
 rule_adds w (events.Mark client name) = quiet w _ _ (λ c. (refl, refl)) (mark_moves w client name)
-rule_adds w (events.Correct client name) = quiet w _ _ (λ c. (refl, refl)) (correct_moves w client name)
+rule_adds w (events.Correct client name) =
+    quiet w _ _ (λ c. (refl, refl)) (correct_moves w client name)
 rule_adds w (events.Waive client) = quiet w _ _ (λ c. (refl, refl)) (waive_moves w client)
 rule_adds w (events.Quit client) = quiet w _ _ (λ c. (refl, refl)) (quit_moves w client)
 rule_adds w (events.Usage client) = quiet w _ _ (λ c. (refl, refl)) (usage_moves w client)
@@ -377,7 +380,8 @@ rule_adds w (events.Stand client charge name) =
 rule_adds w (events.Fall client name) = quiet w _ _ (λ c. (refl, refl)) (fall_moves w client name)
 rule_adds w (events.Count client slot) = quiet w _ _ (λ c. (refl, refl)) (count_moves w client slot)
 rule_adds w (events.Pass client slot) = quiet w _ _ (λ c. (refl, refl)) (pass_moves w client slot)
-rule_adds w (events.Unpass client slot) = quiet w _ _ (λ c. (refl, refl)) (unpass_moves w client slot)
+rule_adds w (events.Unpass client slot) =
+    quiet w _ _ (λ c. (refl, refl)) (unpass_moves w client slot)
 rule_adds w (events.Turn client) = quiet w _ _ (λ c. (refl, refl)) (turn_moves w client)
 rule_adds w (events.Peek client slot) = quiet w _ _ (λ c. (refl, refl)) (peek_moves w client slot)
 

@@ -37,7 +37,8 @@ pub total-set-at : {X : Type 0} (f : X → ℕ) (xs : List X) (i : ℕ) (new : X
     → f new + less ≡ sum_at f (slice_get xs i) → total f (slice_set xs i new) + less ≡ total f xs
 total-set-at f [] i new less h = omega arith
 total-set-at f (x ∷ xs) zero new less h = omega arith
-total-set-at f (x ∷ xs) (suc i) new less h = let rest = total-set-at f xs i new less h in omega arith
+total-set-at f (x ∷ xs) (suc i) new less h =
+    let rest = total-set-at f xs i new less h in omega arith
 
 pub total-append : {X : Type 0} (f : X → ℕ) (xs ys : List X)
     → total f (xs ++ ys) ≡ total f xs + total f ys

@@ -228,8 +228,8 @@ is_of stamp entry = is_stamp stamp entry.stamp
 abbrev pub counts_of : Stamp → Entry → ℕ
 counts_of stamp entry = when (is_of stamp entry) 1
 
--- each entry that was shown, by its stamp, stands in one slot after the events or was freed by one of
--- them, once
+-- each entry that was shown, by its stamp, stands in one slot after the events or was freed by one
+-- of them, once
 abbrev pub AreOnce : State → List Event → Type 0
 AreOnce world events =
     (client : ℕ) (stamp : Stamp)

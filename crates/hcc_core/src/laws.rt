@@ -58,9 +58,9 @@ pub fn law_every_run()
         → AreGiven (opening_of setup) events }
 {}
 
-/// Where entries are: each that is shown in a run stands in one slot after it, or was taken once, by
-/// a free of that slot. The run may begin in any lawful world, as each world of a run from an opening
-/// world is; whatever events come, and in whatever order.
+/// Where entries are: each that is shown in a run stands in one slot after it, or was taken once,
+/// by a free of that slot. The run may begin in any lawful world, as each world of a run from an
+/// opening world is; whatever events come, and in whatever order.
 ///
 /// It does nothing when it runs: its contract is the law.
 pub fn law_every_entry()
