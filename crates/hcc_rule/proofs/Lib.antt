@@ -1,4 +1,5 @@
 pub mod Basics
+pub mod Gone
 pub mod Parts
 pub mod Probes
 pub mod Seats

@@ -3,6 +3,7 @@ pub mod Probes
 pub mod Views
 pub mod Records
 pub mod Rule
+pub mod Gone
 pub mod Images
 pub mod Puttings
 pub mod ImageLimits

@@ -33,6 +33,7 @@ fresh_view tag o others = record {
   hidden = [];
   takings = 0;
   warm = 0;
+  gone = [];
   open_places = 0;
   saw = 0;
   turns = 0;

@@ -45,6 +45,7 @@ joined_view v w = record v {
   hidden = v.hidden ++ w.hidden;
   takings = v.takings + w.takings;
   warm = v.warm + w.warm;
+  gone = v.gone ++ w.gone;
   open_places = v.open_places + w.open_places;
   saw = v.saw + w.saw;
   turns = v.turns + w.turns;

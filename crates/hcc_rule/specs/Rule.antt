@@ -1,6 +1,6 @@
 -- The rule: which words and views show a world. Each part speaks of some readings alone, so that a
 -- step that leaves these keeps the part.
-use Rattle.std.specs.Prelude.{◌≡◌, ◌≢◌, ◌⊎◌, ℕ, ◌+◌, ◌*◌, ◌%◌, ◌^◌, ◌<◌, ◌≤◌, true, List, [], Option, Some, None, IfSome, length, slice_get, slice_index, option_and_then, nat_lt}
+use Rattle.std.specs.Prelude.{◌∷◌, ◌≡◌, ◌≢◌, ◌⊎◌, ℕ, ◌+◌, ◌*◌, ◌%◌, ◌^◌, ◌<◌, ◌≤◌, true, List, [], Option, Some, None, IfSome, length, slice_get, slice_index, option_and_then, nat_lt}
 use Rattle.std.specs.Option.{unwrap_or}
 use Rattle.atomic_table.specs.Table as table
 use Rattle.hcc_core.specs.declared.limits.TheConstants.{REFERENCES_PER_CLIENT, STAMPS_PER_CLIENT, SLOTS_PER_TURN}
@@ -21,6 +21,7 @@ use Rattle.hcc_rule.specs.declared.key.Key.{Key}
 use Rattle.hcc_rule.specs.declared.layout.TheConstants.{META, DISPLACEMENT, DATA, STAMP, PAYLOAD, USAGE, OCCUPANCY, STANDING, HAND}
 use Rattle.hcc_core.specs.declared.limits.TheConstants.{MOST_HANDLES}
 use Rattle.hcc_rule.specs.declared.rule.Plan.{Plan}
+use Rattle.hcc_rule.specs.declared.view.Gone.{Gone}
 use Rattle.hcc_rule.specs.declared.view.Made.{Made}
 use Rattle.hcc_rule.specs.declared.view.Other.{Other}
 use Rattle.hcc_rule.specs.declared.view.Record.{Record}
@@ -41,6 +42,30 @@ book_of books client = unwrap_or (slice_get books client) []
 -- what its maker showed under this stamp
 abbrev pub made_at : Books → Stamp → Option Made
 made_at books stamp = slice_get (book_of books stamp.client) stamp.number
+
+-- Weighings of stamps, by which the rule says that what was shown is in one place.
+
+-- what a client's list weighs, from this number on
+abbrev pub list_weighs : (Stamp → ℕ) → (client number : ℕ) → List Made → ℕ
+list_weighs h client number [] = 0
+list_weighs h client number (made ∷ more) =
+    h (record { client = client; number = number }) + list_weighs h client (number + 1) more
+
+-- what all lists weigh, from that of this client on
+abbrev pub books_weigh : (Stamp → ℕ) → (client : ℕ) → Books → ℕ
+books_weigh h client [] = 0
+books_weigh h client (book ∷ more) =
+    list_weighs h client 0 book + books_weigh h (client + 1) more
+
+-- what a slot's entry weighs
+abbrev pub slot_weighs : (Stamp → ℕ) → Slot → ℕ
+slot_weighs h (slots.Empty strays) = 0
+slot_weighs h (slots.Building client strays) = 0
+slot_weighs h (slots.Shareable r) = h r.entry.stamp
+
+-- what entries weigh that were taken
+abbrev pub taken_weigh : (Stamp → ℕ) → List Gone → ℕ
+taken_weigh h = total (λ (g : Gone). h g.stamp)
 
 -- Codes and data words.
 
@@ -121,7 +146,7 @@ pub record IsNamed (clients : List Client) (books : Books) (o : Other) : Type 0 
 abbrev pub IsSpent : {T : Type 0} → View T → Type 0
 IsSpent v =
     (v.records ≡ []) × (v.others ≡ []) × (owned_slot v.work.owned ≡ None) × (v.takings ≡ 0)
-    × (v.turns ≡ 0)
+    × (v.turns ≡ 0) × (v.gone ≡ [])
 
 -- A view that stands for a client has the table's tag, and that client's work in hand and list are
 -- its own. One that stands for none names none and holds nothing.
@@ -164,6 +189,10 @@ pub record Stamps {T : Type 0} (fits : T → Key → List ℕ → Type 0) (tag :
   pub right : (stamp : Stamp) (made : Made) → made_at books stamp ≡ Some made
       → IsRight fits tag room made
   pub left : total taken_by_slot all + total (λ (v : View T). v.takings) views ≡ total length books
+  -- what was shown stands in one slot, or was taken once: by every weighing of stamps
+  pub weighed : (h : Stamp → ℕ)
+      → total (slot_weighs h) all + total (λ (v : View T). taken_weigh h v.gone) views
+      ≡ books_weigh h 0 books
 
 -- Ledgers and limits.
 

@@ -199,6 +199,7 @@ module _ {T : Type 0} where
     records = records_left name v.records;
     takings = v.takings + 1;
     warm = v.warm + when (is_warm word) 1;
+    gone = v.gone ++ record { stamp = stamp; made = made } ∷ [];
   }
 
   -- what is told of a taken entry: it is one that its maker was right to show, and the one on

@@ -27,6 +27,13 @@ pub struct Made {
     pub charge: u64,
 }
 
+/// An entry that a client took to free its slot: under which stamp it was shown, and what was
+/// shown.
+pub struct Gone {
+    pub stamp: Stamp,
+    pub made: Made,
+}
+
 /// A client that a view names beside its own, which it may start: what it showed, and which entries
 /// it has seen dead.
 pub struct Other {
@@ -75,6 +82,8 @@ pub struct View<T> {
     /// How many entries it took to free them, and how many of these were Shown with uses left.
     pub takings: u64,
     pub warm: u64,
+    /// The entries that it took to free their slots, in order.
+    pub gone: LinkedList<Gone>,
     /// How many of its places were asked for where the shard was full.
     pub open_places: u64,
     /// How many slots it tried to occupy that weren't empty.

@@ -128,6 +128,7 @@ module _ {T : Type 0} (fits : T → Key → List ℕ → Type 0) (p : Plan T) wh
         made =
             refl;
         takings = refl;
+        gone = refl;
       }
 
   -- and shows the world that it showed

@@ -1,5 +1,5 @@
 -- The exchange to construction: an entry with no reference but the client's last one is taken.
-use Rattle.std.proofs.Common.{◌≡◌, ℕ, ◌+◌, ◌^◌, ◌<◌, ◌≤◌, ◌≢◌, ◌==◌, Bool, true, false, cond, List, [], ◌∷◌, Option, Some, None, IfSome, IsSomeAnd, Ok, slice_get, slice_index, slice_set, sym, refl, ap, ◌∙◌, arith, ◌-◌, inl}
+use Rattle.std.proofs.Common.{◌++◌, ◌≡◌, ℕ, ◌+◌, ◌^◌, ◌<◌, ◌≤◌, ◌≢◌, ◌==◌, Bool, true, false, cond, List, [], ◌∷◌, Option, Some, None, IfSome, IsSomeAnd, Ok, slice_get, slice_index, slice_set, sym, refl, ap, ◌∙◌, arith, ◌-◌, inl}
 use Rattle.std.specs.List.{find}
 use Rattle.std.proofs.lemmas.Bool.{eqb-true, eq-eqb, false≢true}
 use mathlib.Core.Option.{none}
@@ -30,10 +30,11 @@ use Rattle.hcc_core.specs.Steps.{outcome_of}
 use Rattle.hcc_core.specs.Lawful.{Lawful}
 use Rattle.hcc_core.proofs.Opening.{is_lawful}
 use Rattle.hcc_core.proofs.StepLemmas.{free_gives}
-use Rattle.hcc_core.proofs.SumLemmas.{total-le, total-member}
+use Rattle.hcc_core.proofs.SumLemmas.{total-le, total-member, total-append}
 use Rattle.hcc_rule.specs.declared.key.Key.{Key}
 use Rattle.hcc_rule.specs.declared.layout.TheConstants.{META}
 use Rattle.hcc_rule.specs.declared.rule.Plan.{Plan}
+use Rattle.hcc_rule.specs.declared.view.Gone.{Gone}
 use Rattle.hcc_rule.specs.declared.view.Made.{Made}
 use Rattle.hcc_rule.specs.declared.view.Record.{Record}
 use Rattle.hcc_rule.specs.declared.view.View.{View}
@@ -44,7 +45,7 @@ use Rattle.hcc_rule.specs.ToldOwners.{IsLast, records_left, after_free, frees}
 use Rattle.hcc_rule.specs.Views.{reference_of, is_on, is_called, is_seated, held, Each}
 use Rattle.hcc_rule.specs.Records.{record_in}
 use Rattle.hcc_rule.specs.Words.{field_at, entry_of, key_of, code_of}
-use Rattle.hcc_rule.specs.Rule.{entry_in, IsStored, IsRecorded, IsHolding, IsRight, Holds}
+use Rattle.hcc_rule.specs.Rule.{entry_in, taken_weigh, IsStored, IsRecorded, IsHolding, IsRight, Holds}
 use Rattle.hcc_rule.proofs.Basics.Lists.{within, read_at}
 use Rattle.hcc_rule.proofs.Parts.Clients.{count_on, dead_told}
 use Rattle.hcc_rule.proofs.Parts.Codes.{is_near, tells_entry}
@@ -288,6 +289,12 @@ module _ {T : Type 0} (fits : T → Key → List ℕ → Type 0) (p : Plan T) wh
         counted = stamps_are fits p s r id v at seated;
         right = was_right fits p s r id v at seated;
         paid = omega arith;
+        weighs = λ h.
+            let push : taken_weigh h (v.gone ++ record { stamp = stamp; made = made } ∷ [])
+            ≡ taken_weigh h v.gone + (h stamp + 0) =
+            total-append (λ (g : Gone). h g.stamp) v.gone (record { stamp = stamp; made = made }
+            ∷ []) in
+            omega arith;
         usage = let charge = charge_is in omega arith;
         occupancy = omega arith;
         standing = refl;

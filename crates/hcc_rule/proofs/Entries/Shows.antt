@@ -28,12 +28,12 @@ use Rattle.hcc_rule.specs.ToldOwners.{room_for, MayShow, first_records, shown_en
 use Rattle.hcc_rule.specs.Views.{reference_of, is_on, is_called, times_called, load_of, is_seated, Each}
 use Rattle.hcc_rule.specs.Records.{record_in}
 use Rattle.hcc_rule.specs.Words.{field_at, stamp_word, code_of}
-use Rattle.hcc_rule.specs.Rule.{entry_by, entry_in, IsStored, IsRecorded, IsHolding, IsRight, Holds, AreApart, IsAbove, IsTagged, book_of, made_at}
+use Rattle.hcc_rule.specs.Rule.{list_weighs, entry_by, entry_in, IsStored, IsRecorded, IsHolding, IsRight, Holds, AreApart, IsAbove, IsTagged, book_of, made_at}
 use Rattle.hcc_rule.proofs.Basics.Lists.{read_at, each_map, each_append}
 use Rattle.hcc_rule.proofs.Parts.Codes.{when_le}
 use Rattle.hcc_rule.proofs.Basics.Findings.{none_passes}
 use Rattle.hcc_rule.proofs.Parts.HeldReferences.{fresh_name}
-use Rattle.hcc_rule.proofs.Parts.WorldParts.{book_here, book_else, made_grows}
+use Rattle.hcc_rule.proofs.Parts.WorldParts.{book_here, book_else, list_weighs_push, made_grows}
 use Rattle.hcc_rule.proofs.Parts.ViewParts.{recorded_else}
 use Rattle.hcc_rule.proofs.References.Looks.{slot_there}
 use Rattle.hcc_rule.proofs.Entries.Empties.{owner_there}
@@ -293,6 +293,10 @@ module _ {T : Type 0} (fits : T → Key → List ℕ → Type 0) (p : Plan T) wh
       counted = let push = length-push v.made made in let count = counts in omega arith;
       right = right;
       paid = let push = length-push v.made made in omega arith;
+      weighs = λ h.
+          let push = list_weighs_push h v.client 0 v.made made v.work.stamps
+          (let count = counts in omega arith) in
+          omega arith;
       usage = let paid = may.paid in omega arith;
       occupancy =
           let placed : when (is_placed v.work.place) 1 ≡ 1 =

@@ -196,8 +196,8 @@ module _ {T : Type 0} (fits : T → Key → List ℕ → Type 0) (p : Plan T) wh
       others = refl;
       records = refl;
       made = refl;
-      takings =
-          refl;
+      takings = refl;
+      gone = refl;
     }
 
     old_tags : IsTagged p.geometry.slots p.geometry.room s.words r.books s.views v

@@ -2,6 +2,7 @@
 use Rattle.std.proofs.Common.{◌≡◌, ℕ, zero, suc, ◌+◌, ◌<◌, ◌≤◌, ◌⊎◌, inl, inr, List, [], ◌∷◌, ◌++◌, Option, Some, None, option_and_then, length, slice_get, slice_set, replicate, sym, refl, ap, ◌∙◌, arith}
 use Rattle.std.proofs.lemmas.List.{length-set}
 use Rattle.hcc_core.specs.declared.slot.Slot.{Slot}
+use Rattle.hcc_core.specs.declared.slot.Stamp.{Stamp}
 use Rattle.hcc_core.specs.Opening.{new_slot}
 use Rattle.hcc_core.specs.Sums.{total}
 use Rattle.hcc_core.proofs.ListLemmas.{read_here, read_last, read_other, replicate_is}
@@ -10,6 +11,7 @@ use Rattle.hcc_rule.specs.declared.image.ImageEntry.{ImageEntry}
 use Rattle.hcc_rule.specs.declared.view.Made.{Made}
 use Rattle.hcc_rule.specs.Images.{made_of_entry, made_from, resident_of, filled, slots_with}
 use Rattle.hcc_rule.specs.ImageLimits.{AreRising}
+use Rattle.hcc_rule.specs.Rule.{books_weigh, list_weighs, slot_weighs}
 use Rattle.hcc_rule.specs.Views.{Each}
 use Rattle.hcc_rule.proofs.Basics.Lists.{there, each_set}
 
@@ -190,6 +192,26 @@ module _ (size : ℕ) where
       (sym (read_other all e.slot s new (λ same. omega arith)) ∙ at)) in
       omega arith
 
+  -- what its slots weigh is what the list of the entries does
+  pub filled_weighs : (h : Stamp → ℕ) (n low : ℕ) (es : List ImageEntry) (all : List Slot)
+      → AreRising low size es → length all ≡ size
+      → ((s : ℕ) (x : Slot) → low ≤ s → slice_get all s ≡ Some x → x ≡ new_slot)
+      → total (slot_weighs h) (filled size n es all)
+      ≡ total (slot_weighs h) all + list_weighs h 0 n (made_from n es)
+  filled_weighs h n low [] all rising wide empty = omega arith
+  filled_weighs h n low (e ∷ es) all rising wide empty =
+      let old = there all e.slot (let near = rising.1 in omega arith) in
+      let was : old.0 ≡ new_slot = empty e.slot old.0 rising.0 old.1 in
+      let gave : slot_weighs h old.0 ≡ 0 = ap (slot_weighs h) was in
+      let new : Slot = resident_of size n e in
+      let change = total-set (slot_weighs h) all e.slot old.0 new old.1 in
+      let low_is = rising.0 in
+      let rest = filled_weighs h (n + 1) (e.slot + 1) es (slice_set all e.slot new)
+      rising.2 (length-set all e.slot new ∙ wide)
+      (λ s x more at. empty s x (omega arith)
+      (sym (read_other all e.slot s new (λ same. omega arith)) ∙ at)) in
+      omega arith
+
   -- an entry of the image stands in this slot
   pub record IsPlacedIn (es : List ImageEntry) (s : ℕ) (x : Slot) : Type 0 where
     pub number : ℕ
@@ -226,3 +248,8 @@ module _ (size : ℕ) where
         | inl empty ↦ let bad : None ≡ Some a = sym none ∙ (ap f (sym empty) ∙ is) in cc
         | inr placed ↦ (x, placed, is)
       ]
+
+-- lists of nothing weigh nothing
+pub books_weigh_none : (h : Stamp → ℕ) (k n : ℕ) → books_weigh h k (replicate n []) ≡ 0
+books_weigh_none h k zero = refl
+books_weigh_none h k (suc n) = let rest = books_weigh_none h (k + 1) n in omega arith

@@ -39,6 +39,7 @@ view_kept v left asked turns seen tight = record {
   records = refl;
   made = refl;
   takings = refl;
+  gone = refl;
 }
 
 -- what is paid at a place is paid there by any name

@@ -8,7 +8,7 @@ use Rattle.hcc_core.proofs.SumLemmas.{total-set}
 use Rattle.hcc_rule.specs.declared.key.Key.{Key}
 use Rattle.hcc_rule.specs.declared.view.View.{View}
 use Rattle.hcc_rule.specs.Views.{is_seated, held}
-use Rattle.hcc_rule.specs.Rule.{Books, book_of, References, IsHolding, Holding, Seats, Stamps}
+use Rattle.hcc_rule.specs.Rule.{Books, book_of, taken_weigh, References, IsHolding, Holding, Seats, Stamps}
 use Rattle.hcc_rule.proofs.Basics.Lists.{word_here, word_else, each_set}
 use Rattle.hcc_core.proofs.ListLemmas.{set_same}
 use Rattle.hcc_rule.proofs.Parts.ViewParts.{holding_set, seats_set}
@@ -21,6 +21,7 @@ pub record SameView {T : Type 0} (v new : View T) : Type 0 where
   pub records : new.records ≡ v.records
   pub made : new.made ≡ v.made
   pub takings : new.takings ≡ v.takings
+  pub gone : new.gone ≡ v.gone
 
 -- of what is in hand, the trail, the place and the amounts may differ
 abbrev pub SameSlotWork : Client → Client → Type 0
@@ -96,6 +97,11 @@ stamps_view {T} fits tag room all clients books views id v new stamps at at_clie
           let change = total-set (λ (u : View T). u.takings) views id v new at in
           let takings = same.takings in
           let was = stamps.left in
+          omega arith;
+      weighed = λ h.
+          let change = total-set (λ (u : View T). taken_weigh h u.gone) views id v new at in
+          let gone = ap (taken_weigh h) same.gone in
+          let was = stamps.weighed h in
           omega arith;
     }
 

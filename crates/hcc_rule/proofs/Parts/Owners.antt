@@ -5,6 +5,7 @@ use Rattle.hcc_core.specs.declared.event.Reply.{Reply}
 use Rattle.hcc_core.specs.declared.client.Client.{Client}
 use Rattle.hcc_core.specs.declared.client.Owned.TheVariants as owned
 use Rattle.hcc_core.specs.declared.slot.Reference.{Reference}
+use Rattle.hcc_core.specs.declared.slot.Stamp.{Stamp}
 use Rattle.hcc_core.specs.declared.slot.Slot.{Slot}
 use Rattle.hcc_core.specs.declared.slot.Slot.TheVariants as slots
 use Rattle.hcc_core.specs.Sums.{total}
@@ -16,7 +17,7 @@ use Rattle.hcc_rule.specs.declared.rule.Plan.{Plan}
 use Rattle.hcc_rule.specs.declared.view.Record.{Record}
 use Rattle.hcc_rule.specs.declared.view.View.{View}
 use Rattle.hcc_rule.specs.Views.{is_seated, held}
-use Rattle.hcc_rule.specs.Rule.{entry_by, IsRecorded, IsTrailed, Holds}
+use Rattle.hcc_rule.specs.Rule.{entry_by, list_weighs, slot_weighs, taken_weigh, IsRecorded, IsTrailed, Holds}
 use Rattle.hcc_rule.proofs.Basics.Lists.{each_map}
 use Rattle.hcc_rule.proofs.Parts.ViewParts.{recorded_kept}
 use Rattle.hcc_rule.proofs.Parts.SlotSteps.{Shard, SameName, SlotStep}
@@ -31,12 +32,13 @@ pub record IsBare (t : Slot) : Type 0 where
   pub trail : trail_of t ≡ []
   pub charge : charge_of t ≡ 0
   pub taken : taken_by_slot t ≡ 0
+  pub weight : (h : Stamp → ℕ) → slot_weighs h t ≡ 0
 
 pub is_bare : (t : Slot) → entry_by t ≡ None → IsBare t
-is_bare (slots.Empty strays) none = record
-    { references = refl; trail = refl; charge = refl; taken = refl }
+is_bare (slots.Empty strays) none =
+    record { references = refl; trail = refl; charge = refl; taken = refl; weight = λ h. refl }
 is_bare (slots.Building client strays) none =
-    record { references = refl; trail = refl; charge = refl; taken = refl }
+    record { references = refl; trail = refl; charge = refl; taken = refl; weight = λ h. refl }
 is_bare (slots.Shareable r) none = cc
 
 pub trailed_bare : (size i : ℕ) (t : Slot) → entry_by t ≡ None → IsTrailed size i t
@@ -53,6 +55,7 @@ pub record StartsAnew {T : Type 0} (v new : View T) : Type 0 where
   pub records : new.records ≡ v.records
   pub made : new.made ≡ v.made
   pub takings : new.takings ≡ v.takings
+  pub gone : new.gone ≡ v.gone
   pub written : new.written ≡ []
 
 module _ {T : Type 0} (fits : T → Key → List ℕ → Type 0) (p : Plan T) where
@@ -113,6 +116,12 @@ module _ {T : Type 0} (fits : T → Key → List ℕ → Type 0) (p : Plan T) wh
         let now = later.taken in
         let takings = m.store.takings in
         let made = ap length m.store.made in
+        omega arith;
+    weighs = λ h.
+        let was = before.weight h in
+        let now = later.weight h in
+        let gone = ap (taken_weigh h) m.store.gone in
+        let made = ap (list_weighs h v.client 0) m.store.made in
         omega arith;
     usage =
         let was = before.charge in

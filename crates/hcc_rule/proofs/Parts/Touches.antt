@@ -7,6 +7,7 @@ use Rattle.hcc_core.specs.declared.event.Reply.{Reply}
 use Rattle.hcc_core.specs.declared.client.Client.{Client}
 use Rattle.hcc_core.specs.declared.slot.Entry.{Entry}
 use Rattle.hcc_core.specs.declared.slot.Reference.{Reference}
+use Rattle.hcc_core.specs.declared.slot.Stamp.{Stamp}
 use Rattle.hcc_core.specs.declared.slot.Slot.{Slot}
 use Rattle.hcc_core.specs.declared.slot.Slot.TheVariants as slots
 use Rattle.hcc_core.specs.Sums.{when, total}
@@ -23,7 +24,7 @@ use Rattle.hcc_rule.specs.declared.view.View.{View}
 use Rattle.hcc_rule.specs.Told.{Held}
 use Rattle.hcc_rule.specs.Views.{is_seated, held}
 use Rattle.hcc_rule.specs.Words.{field_at, code_of}
-use Rattle.hcc_rule.specs.Rule.{entry_by, entry_in, stamp_at, IsRecorded, IsHolding, IsTag, IsTagged, IsTrailed, Holds, IsRight, WasShown}
+use Rattle.hcc_rule.specs.Rule.{list_weighs, slot_weighs, taken_weigh, entry_by, entry_in, stamp_at, IsRecorded, IsHolding, IsTag, IsTagged, IsTrailed, Holds, IsRight, WasShown}
 use Rattle.hcc_rule.proofs.Basics.Lists.{each_map}
 use Rattle.hcc_rule.proofs.Parts.ViewParts.{recorded_kept}
 use Rattle.hcc_rule.proofs.Parts.SlotSteps.{Shard, SameName, SlotStep, near, slot_becomes}
@@ -65,6 +66,19 @@ taken_alike t left like = taken_is left ∙ (ap (λ o. when (is_some o) 1) like.
 charge_alike : (t left : Slot) → Alike t left → charge_of left ≡ charge_of t
 charge_alike t left like = charge_is left ∙ (ap charge_in like.entry ∙ sym (charge_is t))
 
+-- the weight of what stands in a slot goes by its entry alone
+abbrev weight_in : (Stamp → ℕ) → Option Entry → ℕ
+weight_in h None = 0
+weight_in h (Some entry) = h entry.stamp
+
+weight_is : (h : Stamp → ℕ) (t : Slot) → slot_weighs h t ≡ weight_in h (entry_by t)
+weight_is h (slots.Empty strays) = refl
+weight_is h (slots.Building client strays) = refl
+weight_is h (slots.Shareable r) = refl
+
+weight_alike : (h : Stamp → ℕ) (t left : Slot) → Alike t left → slot_weighs h left ≡ slot_weighs h t
+weight_alike h t left like = weight_is h left ∙ (ap (weight_in h) like.entry ∙ sym (weight_is h t))
+
 trailed_alike : (size i : ℕ) (t left : Slot) → Alike t left → IsTrailed size i t
     → IsTrailed size i left
 trailed_alike size i t (slots.Empty strays) like h = tt
@@ -92,6 +106,7 @@ pub record SameStore {T : Type 0} (v new : View T) : Type 0 where
   pub written : new.written ≡ v.written
   pub made : new.made ≡ v.made
   pub takings : new.takings ≡ v.takings
+  pub gone : new.gone ≡ v.gone
 
 module _ {T : Type 0} (fits : T → Key → List ℕ → Type 0) (p : Plan T) where
   -- What such a step owes.
@@ -176,6 +191,11 @@ module _ {T : Type 0} (fits : T → Key → List ℕ → Type 0) (p : Plan T) wh
         let taken = taken_alike t left m.like in
         let takings = m.store.takings in
         let made = ap length m.store.made in
+        omega arith;
+    weighs = λ h.
+        let slot = weight_alike h t left m.like in
+        let gone = ap (taken_weigh h) m.store.gone in
+        let made = ap (list_weighs h v.client 0) m.store.made in
         omega arith;
     usage =
         let charge = charge_alike t left m.like in

@@ -1,6 +1,6 @@
 -- The parts that speak of stamps, ledgers, the hand and trails, and what keeps them at a change of
 -- one slot, one client and its view.
-use Rattle.std.proofs.Common.{◌≡◌, ℕ, ◌+◌, ◌*◌, ◌%◌, ◌^◌, ◌<◌, ◌≢◌, ◌⊎◌, inl, inr, List, [], Some, length, slice_get, slice_set, sym, ap, ◌∙◌, arith}
+use Rattle.std.proofs.Common.{◌≡◌, ℕ, ◌+◌, ◌*◌, ◌%◌, ◌^◌, ◌<◌, ◌≢◌, ◌⊎◌, inl, inr, zero, suc, List, [], ◌∷◌, ◌++◌, Some, length, slice_get, slice_set, sym, ap, ◌∙◌, arith}
 use Rattle.std.specs.Option.{unwrap_or}
 use Rattle.std.proofs.lemmas.Bool.{cases_eq}
 use Rattle.std.proofs.lemmas.List.{length-set}
@@ -17,9 +17,10 @@ use Rattle.hcc_core.proofs.SumLemmas.{total-set}
 use Rattle.hcc_rule.specs.declared.key.Key.{Key}
 use Rattle.hcc_rule.specs.declared.layout.TheConstants.{DISPLACEMENT}
 use Rattle.hcc_rule.specs.declared.view.Made.{Made}
+use Rattle.hcc_rule.specs.declared.view.Gone.{Gone}
 use Rattle.hcc_rule.specs.declared.view.View.{View}
 use Rattle.hcc_rule.specs.Words.{field_at, ledger_at}
-use Rattle.hcc_rule.specs.Rule.{Books, book_of, made_at, IsRight, Stamps, IsModest, Ledgers, IsTrailed, Trails, hand_after}
+use Rattle.hcc_rule.specs.Rule.{Books, book_of, made_at, books_weigh, list_weighs, slot_weighs, taken_weigh, IsRight, Stamps, IsModest, Ledgers, IsTrailed, Trails, hand_after}
 use Rattle.hcc_rule.proofs.Basics.Lists.{word_else, each_set}
 
 -- Books.
@@ -50,6 +51,38 @@ made_grows books c old new at grows stamp made listed = elim (cases_eq stamp.cli
       ∙ listed
 ]
 
+-- Weighings.
+
+-- a change of one list changes what all weigh by that list's change
+pub books_weigh_set : (h : Stamp → ℕ) (k : ℕ) (books : Books) (c d : ℕ) (old new : List Made)
+    → slice_get books c ≡ Some old → d ≡ k + c
+    → books_weigh h k (slice_set books c new) + list_weighs h d 0 old
+    ≡ books_weigh h k books + list_weighs h d 0 new
+books_weigh_set h k [] c d old new at is = cc
+books_weigh_set h k (b ∷ bs) zero d old new at is =
+    let same : b ≡ old = cc in
+    let here : k ≡ d = omega arith in
+    let was : list_weighs h k 0 b ≡ list_weighs h d 0 old =
+    ap (λ x. list_weighs h k 0 x) same ∙ ap (λ z. list_weighs h z 0 old) here in
+    let now : list_weighs h k 0 new ≡ list_weighs h d 0 new =
+    ap (λ z. list_weighs h z 0 new) here in
+    omega arith
+books_weigh_set h k (b ∷ bs) (suc c) d old new at is =
+    let rest = books_weigh_set h (k + 1) bs c d old new at (omega arith) in omega arith
+
+-- one more in a list
+pub list_weighs_push : (h : Stamp → ℕ) (c n : ℕ) (xs : List Made) (x : Made) (m : ℕ)
+    → m ≡ n + length xs
+    → list_weighs h c n (xs ++ x ∷ [])
+    ≡ list_weighs h c n xs + h (record { client = c; number = m })
+list_weighs_push h c n [] x m is =
+    let here : n ≡ m = omega arith in
+    let same : h (record { client = c; number = n }) ≡ h (record { client = c; number = m }) =
+    ap (λ z. h (record { client = c; number = z })) here in
+    omega arith
+list_weighs_push h c n (y ∷ ys) x m is =
+    let rest = list_weighs_push h c (n + 1) ys x m (omega arith) in omega arith
+
 -- Stamps.
 
 pub stamps_set : {T : Type 0} (fits : T → Key → List ℕ → Type 0) (tag : T) (room : ℕ)
@@ -62,10 +95,13 @@ pub stamps_set : {T : Type 0} (fits : T → Key → List ℕ → Type 0) (tag : 
     → ((n : ℕ) (made : Made) → slice_get new.made n ≡ Some made → IsRight fits tag room made)
     → taken_by_slot left + new.takings + length v.made
     ≡ taken_by_slot t + v.takings + length new.made
+    → ((h : Stamp → ℕ)
+    → slot_weighs h left + taken_weigh h new.gone + list_weighs h v.client 0 v.made
+    ≡ slot_weighs h t + taken_weigh h v.gone + list_weighs h v.client 0 new.made)
     → Stamps fits tag room (slice_set all i left) (slice_set clients v.client new.work)
     (slice_set books v.client new.made) (slice_set views id new)
 stamps_set {T} fits tag room all clients books views i id t left v new stamps at_slot at_view
-    at_client at_book count right paid = record {
+    at_client at_book count right paid weighs = record {
       sized = length-set books v.client new.made
           ∙ (stamps.sized ∙ sym (length-set clients v.client new.work));
       counted = each_set (λ c client. client.stamps ≡ length (book_of after c)) clients v.client
@@ -88,6 +124,14 @@ stamps_set {T} fits tag room all clients books views i id t left v new stamps at
           let takings = total-set (λ (u : View T). u.takings) views id v new at_view in
           let lists = total-set length books v.client v.made new.made at_book in
           let was = stamps.left in
+          omega arith;
+      weighed = λ h.
+          let slots = total-set (slot_weighs h) all i t left at_slot in
+          let gone = total-set (λ (u : View T). taken_weigh h u.gone) views id v new at_view in
+          let lists =
+          books_weigh_set h 0 books v.client v.client v.made new.made at_book (omega arith) in
+          let was = stamps.weighed h in
+          let owed = weighs h in
           omega arith;
     }
   where

@@ -185,7 +185,7 @@ module _ {T : Type 0} (fits : T → Key → List ℕ → Type 0) (p : Plan T) wh
           seated = o.seated;
           same = record { tag = refl; client = refl; others = refl; turns = refl; glimpse = refl };
           work = refl;
-          store = record { written = refl; made = refl; takings = refl };
+          store = record { written = refl; made = refl; takings = refl; gone = refl };
           allowed = rw left_is (by_client r.world event reply i me.0.client
               (slot_acquired t (new_reference me.0.client x n t))
               (client_acquired me.0.client (slot_acquired t (new_reference me.0.client x n t))
@@ -237,7 +237,7 @@ module _ {T : Type 0} (fits : T → Key → List ℕ → Type 0) (p : Plan T) wh
         seated = o.seated;
         same = record { tag = refl; client = refl; others = refl; turns = refl; glimpse = refl };
         work = refl;
-        store = record { written = refl; made = refl; takings = refl };
+        store = record { written = refl; made = refl; takings = refl; gone = refl };
         allowed = by_client r.world event reply i me.0.client left
             (client_acquired me.0.client left me.0.work) new.work becomes
             (allowed s r id i a n x me t o);

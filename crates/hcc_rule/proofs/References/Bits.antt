@@ -127,7 +127,7 @@ module _ {T : Type 0} (fits : T → Key → List ℕ → Type 0) (p : Plan T) wh
       (rested s r id i me.0 new k (record k { shown = false }) event reply o.at_view o.at_slot
       o.seated
       record { tag = refl; client = refl; others = refl; turns = refl; glimpse = refl } refl record
-      { written = refl; made = refl; takings = refl } refl refl refl refl refl
+      { written = refl; made = refl; takings = refl; gone = refl } refl refl refl refl refl
       (by_client r.world event reply i me.0.client left (client_noticed me.0.client left me.0.work)
       new.work becomes
       (hide_allowed r.world me.0.client x i me.0.work t l small holds o.at_slot
@@ -217,7 +217,7 @@ module _ {T : Type 0} (fits : T → Key → List ℕ → Type 0) (p : Plan T) wh
       (rested s r id i me.0 new k (record k { hit = true }) event replies.Ok o.at_view o.at_slot
       o.seated
       record { tag = refl; client = refl; others = refl; turns = refl; glimpse = refl } refl record
-      { written = refl; made = refl; takings = refl } refl refl refl refl refl
+      { written = refl; made = refl; takings = refl; gone = refl } refl refl refl refl refl
       (by_client r.world event replies.Ok i me.0.client left
       (client_noticed me.0.client t me.0.work) new.work becomes
       (mark_allowed r.world me.0.client x i me.0.work t l small

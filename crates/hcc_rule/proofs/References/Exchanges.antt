@@ -180,7 +180,7 @@ module _ {T : Type 0} (fits : T → Key → List ℕ → Type 0) (p : Plan T) wh
       (rested fits p s r id i me.0 me.0 k left event (replies.Uses (clocked k.uses)) at at_slot
       seated
       record { tag = refl; client = refl; others = refl; turns = refl; glimpse = refl } refl record
-      { written = refl; made = refl; takings = refl } refl refl refl refl refl
+      { written = refl; made = refl; takings = refl; gone = refl } refl refl refl refl refl
       (clock_allowed r.world me.0.client i me.0.work k l at_slot
       (client_is fits p s r id me.0 at seated) (live_is fits p s r id me.0 at seated) may))
       told
@@ -267,7 +267,7 @@ module _ {T : Type 0} (fits : T → Key → List ℕ → Type 0) (p : Plan T) wh
       code (refl, refl)
       (rested fits p s r id i me.0 after k left event replies.Ok o.at_view o.at_slot o.seated
       record { tag = refl; client = refl; others = refl; turns = refl; glimpse = refl } refl record
-      { written = refl; made = refl; takings = refl } refl refl refl refl refl
+      { written = refl; made = refl; takings = refl; gone = refl } refl refl refl refl refl
       (by_client r.world event replies.Ok i me.0.client (slots.Shareable left)
       (client_noticed me.0.client t me.0.work) after.work becomes
       (correct_allowed r.world me.0.client x i me.0.work k l small

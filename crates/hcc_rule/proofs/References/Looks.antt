@@ -139,7 +139,7 @@ module _ {T : Type 0} (fits : T → Key → List ℕ → Type 0) (p : Plan T) wh
         seated = seated;
         same = record { tag = refl; client = refl; others = refl; turns = refl; glimpse = refl };
         work = refl;
-        store = record { written = refl; made = refl; takings = refl };
+        store = record { written = refl; made = refl; takings = refl; gone = refl };
         allowed = by_client r.world event reply i me.0.client t
             (client_looked me.0.client i t me.0.work) new.work becomes
             (look_gives r.world me.0.client i me.0.work t l at_slot

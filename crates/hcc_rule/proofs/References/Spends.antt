@@ -80,7 +80,7 @@ module _ {T : Type 0} (fits : T → Key → List ℕ → Type 0) (p : Plan T) wh
         seated = o.seated;
         same = record { tag = refl; client = refl; others = refl; turns = refl; glimpse = refl };
         work = refl;
-        store = record { written = refl; made = refl; takings = refl };
+        store = record { written = refl; made = refl; takings = refl; gone = refl };
         allowed = by_client r.world event reply i me.0.client left
             (client_noticed me.0.client t me.0.work) new.work becomes
             (use_allowed r.world me.0.client x i me.0.work t j l small

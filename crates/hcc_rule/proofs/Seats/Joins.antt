@@ -21,10 +21,11 @@ use Rattle.hcc_core.proofs.Keeps.{follows_lawful}
 use Rattle.hcc_core.proofs.Opening.{is_lawful}
 use Rattle.hcc_rule.specs.declared.key.Key.{Key}
 use Rattle.hcc_rule.specs.declared.rule.Plan.{Plan}
+use Rattle.hcc_rule.specs.declared.view.Gone.{Gone}
 use Rattle.hcc_rule.specs.declared.view.Other.{Other}
 use Rattle.hcc_rule.specs.declared.view.View.{View}
 use Rattle.hcc_rule.specs.Views.{is_seated, held, names, named_by, Each}
-use Rattle.hcc_rule.specs.Rule.{book_of, IsDraft, IsHolding, IsNamed, IsSeated, Seats, Stamps, IsModest, Ledgers, Trails, resting, Holds, IsBuildingAs, IsTagged}
+use Rattle.hcc_rule.specs.Rule.{taken_weigh, book_of, IsDraft, IsHolding, IsNamed, IsSeated, Seats, Stamps, IsModest, Ledgers, Trails, resting, Holds, IsBuildingAs, IsTagged}
 use Rattle.hcc_rule.specs.Acts.{did}
 use Rattle.hcc_rule.specs.Passing.{IsIdle, as_other, joined_view, spent_view}
 use Rattle.hcc_rule.proofs.Seats.Passes.{Passed, JoinsBy}
@@ -183,7 +184,7 @@ module _ {T : Type 0} (fits : T → Key → List ℕ → Type 0) (p : Plan T) wh
       live = λ still. cc;
       book = λ still. cc;
       others = tt;
-      spent = λ gone. (refl, refl, refl, refl, refl);
+      spent = λ gone. (refl, refl, refl, refl, refl, refl);
     }
 
     theirs : (j : ℕ) (u : View T) → j ≢ other → slice_get s.views j ≡ Some u
@@ -263,6 +264,12 @@ module _ {T : Type 0} (fits : T → Key → List ℕ → Type 0) (p : Plan T) wh
           let same = total_joined (λ (u : View T). u.takings) s.views id other v w both spent at
           still_there (omega arith) in
           let paid = r.stamps.left in
+          omega arith;
+      weighed = λ h.
+          let split = total-append (λ (g : Gone). h g.stamp) v.gone w.gone in
+          let same = total_joined (λ (u : View T). taken_weigh h u.gone) s.views id other v w both
+          spent at still_there (omega arith) in
+          let was = r.stamps.weighed h in
           omega arith;
     }
 

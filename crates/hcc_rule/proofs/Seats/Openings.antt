@@ -31,7 +31,7 @@ use Rattle.hcc_rule.specs.Images.{entries_in, made_of_entry, made_from, resident
 use Rattle.hcc_rule.specs.ImageLimits.{charges_of, IsImageEntry, IsImageFor}
 use Rattle.hcc_rule.specs.Probes.{probe_slot, probe_slots, before, trail_to}
 use Rattle.hcc_rule.specs.Views.{Each}
-use Rattle.hcc_rule.specs.Rule.{Books, book_of, made_at, entry_by, entry_in, setup_of, IsStored, IsDraft, IsHolding, IsNamed, IsRight, IsSeated, Seats, Stamps, Ledgers, Trails, IsTrailed, IsModest, Holds, AreApart, IsTagged}
+use Rattle.hcc_rule.specs.Rule.{slot_weighs, Books, book_of, made_at, entry_by, entry_in, setup_of, IsStored, IsDraft, IsHolding, IsNamed, IsRight, IsSeated, Seats, Stamps, Ledgers, Trails, IsTrailed, IsModest, Holds, AreApart, IsTagged}
 use Rattle.hcc_rule.specs.Words.{entry_of}
 use Rattle.hcc_rule.specs.Acts.{IsFront}
 use Rattle.hcc_rule.specs.Logs.{HoldsLogged, first_logged}
@@ -39,9 +39,10 @@ use Rattle.hcc_rule.specs.Opening.{begun_world, started, unstarted, opening_view
 use Rattle.hcc_rule.specs.Seats.{moves_of}
 use Rattle.hcc_rule.proofs.Basics.Bounds.{total-bound}
 use Rattle.hcc_rule.proofs.Basics.Lists.{each_set, within}
+use Rattle.hcc_rule.proofs.Parts.WorldParts.{books_weigh_set}
 use Rattle.hcc_rule.proofs.Parts.ViewParts.{when_is}
 use Rattle.hcc_rule.proofs.Seats.Histories.{front_all, trails_none}
-use Rattle.hcc_rule.proofs.Images.Fillings.{each_get, made_length, made_get, made_only, filled_length, filled_each, filled_total, read_with}
+use Rattle.hcc_rule.proofs.Images.Fillings.{each_get, made_length, made_get, made_only, filled_length, filled_each, filled_total, filled_weighs, books_weigh_none, read_with}
 use Rattle.hcc_rule.proofs.Parts.Tags.{tagged_none}
 
 -- a list of one member over and over has it at each place
@@ -447,6 +448,13 @@ module _ {T : Type 0} (fits : T → Key → List ℕ → Type 0) (p : Plan T) (c
         let change = total-set length no_books 0 [] first_made no_book in
         let none : total length no_books ≡ 0 = total-zero length Clients [] refl in
         let count = made_length 0 entries in
+        omega arith;
+    weighed = λ h.
+        let sum = filled_weighs Size h 0 0 entries (replicate Size new_slot) image.rising
+        (length-replicate Size new_slot) (λ s x low at. replicate_is Size s new_slot x at) in
+        let empty = total-zero (slot_weighs h) Size new_slot refl in
+        let change = books_weigh_set h 0 no_books 0 0 [] first_made no_book (omega arith) in
+        let none = books_weigh_none h 0 Clients in
         omega arith;
   }
 

@@ -19,7 +19,7 @@ use Rattle.hcc_rule.specs.declared.rule.Plan.{Plan}
 use Rattle.hcc_rule.specs.declared.view.Other.{Other}
 use Rattle.hcc_rule.specs.declared.view.View.{View}
 use Rattle.hcc_rule.specs.Views.{is_seated, held, names, named_by, Each}
-use Rattle.hcc_rule.specs.Rule.{book_of, IsDraft, IsHolding, IsNamed, IsSeated, Seats, Stamps, IsModest, Ledgers, Trails, resting, Holds, IsBuildingAs, IsTagged}
+use Rattle.hcc_rule.specs.Rule.{taken_weigh, book_of, IsDraft, IsHolding, IsNamed, IsSeated, Seats, Stamps, IsModest, Ledgers, Trails, resting, Holds, IsBuildingAs, IsTagged}
 use Rattle.hcc_rule.specs.Opening.{started, fresh_view}
 use Rattle.hcc_rule.specs.Acts.{did}
 use Rattle.hcc_rule.proofs.Seats.Passes.{Passed, SplitsBy}
@@ -228,6 +228,11 @@ module _ {T : Type 0} (fits : T → Key → List ℕ → Type 0) (p : Plan T) wh
           let same = total_split (λ (u : View T). u.takings) s.views id v left right at
           (omega arith) in
           let paid = r.stamps.left in
+          omega arith;
+      weighed = λ h.
+          let same = total_split (λ (u : View T). taken_weigh h u.gone) s.views id v left right at
+          (omega arith) in
+          let was = r.stamps.weighed h in
           omega arith;
     }
 
