@@ -179,6 +179,11 @@ pub record IsRight {T : Type 0} (fits : T → Key → List ℕ → Type 0) (tag 
   pub paid : 0 < made.charge
   pub small : made.charge < 2 ^ 32
 
+-- what a view took: as many as it counts, and each is what its maker showed under that stamp
+pub record IsGiven {T : Type 0} (books : Books) (v : View T) : Type 0 where
+  pub count : length v.gone ≡ v.takings
+  pub each : Each (λ (g : Gone). made_at books g.stamp ≡ Some g.made) v.gone
+
 -- each client's count of stamps is the length of its list, and the entries are as many as were
 -- shown less those that were taken
 pub record Stamps {T : Type 0} (fits : T → Key → List ℕ → Type 0) (tag : T) (room : ℕ)
@@ -193,6 +198,7 @@ pub record Stamps {T : Type 0} (fits : T → Key → List ℕ → Type 0) (tag :
   pub weighed : (h : Stamp → ℕ)
       → total (slot_weighs h) all + total (λ (v : View T). taken_weigh h v.gone) views
       ≡ books_weigh h 0 books
+  pub given : (j : ℕ) (v : View T) → slice_get views j ≡ Some v → IsGiven books v
 
 -- Ledgers and limits.
 

@@ -1,7 +1,8 @@
 -- The exchange to construction: an entry with no reference but the client's last one is taken.
-use Rattle.std.proofs.Common.{◌++◌, ◌≡◌, ℕ, ◌+◌, ◌^◌, ◌<◌, ◌≤◌, ◌≢◌, ◌==◌, Bool, true, false, cond, List, [], ◌∷◌, Option, Some, None, IfSome, IsSomeAnd, Ok, slice_get, slice_index, slice_set, sym, refl, ap, ◌∙◌, arith, ◌-◌, inl}
+use Rattle.std.proofs.Common.{◌++◌, ◌≡◌, ℕ, ◌+◌, ◌^◌, ◌<◌, ◌≤◌, ◌≢◌, ◌==◌, Bool, true, false, cond, List, [], ◌∷◌, Option, Some, None, IfSome, IsSomeAnd, Ok, slice_get, slice_index, slice_set, sym, refl, ap, ◌∙◌, arith, ◌-◌, inl, length}
 use Rattle.std.specs.List.{find}
 use Rattle.std.proofs.lemmas.Bool.{eqb-true, eq-eqb, false≢true}
+use Rattle.std.proofs.lemmas.List.{length-append}
 use mathlib.Core.Option.{none}
 use prog.Atomic.{either}
 use Rattle.atomic_table.specs.Table.{step}
@@ -45,8 +46,8 @@ use Rattle.hcc_rule.specs.ToldOwners.{IsLast, records_left, after_free, frees}
 use Rattle.hcc_rule.specs.Views.{reference_of, is_on, is_called, is_seated, held, Each}
 use Rattle.hcc_rule.specs.Records.{record_in}
 use Rattle.hcc_rule.specs.Words.{field_at, entry_of, key_of, code_of}
-use Rattle.hcc_rule.specs.Rule.{entry_in, taken_weigh, IsStored, IsRecorded, IsHolding, IsRight, Holds}
-use Rattle.hcc_rule.proofs.Basics.Lists.{within, read_at}
+use Rattle.hcc_rule.specs.Rule.{entry_in, taken_weigh, IsStored, IsRecorded, IsHolding, IsRight, Holds, made_at}
+use Rattle.hcc_rule.proofs.Basics.Lists.{within, read_at, each_append}
 use Rattle.hcc_rule.proofs.Parts.Clients.{count_on, dead_told}
 use Rattle.hcc_rule.proofs.Parts.Codes.{is_near, tells_entry}
 use Rattle.hcc_rule.proofs.References.Exchanges.{unreferenced, records_weigh}
@@ -295,6 +296,17 @@ module _ {T : Type 0} (fits : T → Key → List ℕ → Type 0) (p : Plan T) wh
             total-append (λ (g : Gone). h g.stamp) v.gone (record { stamp = stamp; made = made }
             ∷ []) in
             omega arith;
+        given =
+            let old = r.stamps.given id v at in
+            let same = set_same r.books v.client v.made (book_is fits p s r id v at seated) in
+            rw same record {
+              count =
+                  let more = length-append v.gone (record { stamp = stamp; made = made } ∷ []) in
+                  let count = old.count in
+                  omega arith;
+              each = each_append (λ (g : Gone). made_at r.books g.stamp ≡ Some g.made) v.gone
+                  (record { stamp = stamp; made = made } ∷ []) old.each (kept.listed, tt);
+            };
         usage = let charge = charge_is in omega arith;
         occupancy = omega arith;
         standing = refl;

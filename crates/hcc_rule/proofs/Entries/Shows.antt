@@ -33,7 +33,7 @@ use Rattle.hcc_rule.proofs.Basics.Lists.{read_at, each_map, each_append}
 use Rattle.hcc_rule.proofs.Parts.Codes.{when_le}
 use Rattle.hcc_rule.proofs.Basics.Findings.{none_passes}
 use Rattle.hcc_rule.proofs.Parts.HeldReferences.{fresh_name}
-use Rattle.hcc_rule.proofs.Parts.WorldParts.{book_here, book_else, list_weighs_push, made_grows}
+use Rattle.hcc_rule.proofs.Parts.WorldParts.{book_here, book_else, list_weighs_push, made_grows, given_kept}
 use Rattle.hcc_rule.proofs.Parts.ViewParts.{recorded_else}
 use Rattle.hcc_rule.proofs.References.Looks.{slot_there}
 use Rattle.hcc_rule.proofs.Entries.Empties.{owner_there}
@@ -297,6 +297,10 @@ module _ {T : Type 0} (fits : T → Key → List ℕ → Type 0) (p : Plan T) wh
           let push = list_weighs_push h v.client 0 v.made made v.work.stamps
           (let count = counts in omega arith) in
           omega arith;
+      given = given_kept r.books (slice_set r.books v.client new.made) v new
+          (made_grows r.books v.client v.made new.made book
+          (λ n m there. get_front v.made (made ∷ []) n m there)) refl refl
+          (r.stamps.given id v at);
       usage = let paid = may.paid in omega arith;
       occupancy =
           let placed : when (is_placed v.work.place) 1 ≡ 1 =

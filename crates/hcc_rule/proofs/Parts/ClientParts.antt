@@ -8,10 +8,11 @@ use Rattle.hcc_core.proofs.SumLemmas.{total-set}
 use Rattle.hcc_rule.specs.declared.key.Key.{Key}
 use Rattle.hcc_rule.specs.declared.view.View.{View}
 use Rattle.hcc_rule.specs.Views.{is_seated, held}
-use Rattle.hcc_rule.specs.Rule.{Books, book_of, taken_weigh, References, IsHolding, Holding, Seats, Stamps}
+use Rattle.hcc_rule.specs.Rule.{Books, book_of, taken_weigh, References, IsHolding, Holding, Seats, Stamps, IsGiven}
 use Rattle.hcc_rule.proofs.Basics.Lists.{word_here, word_else, each_set}
 use Rattle.hcc_core.proofs.ListLemmas.{set_same}
 use Rattle.hcc_rule.proofs.Parts.ViewParts.{holding_set, seats_set}
+use Rattle.hcc_rule.proofs.Parts.WorldParts.{given_kept}
 
 -- what a view keeps where neither entries nor references move
 pub record SameView {T : Type 0} (v new : View T) : Type 0 where
@@ -103,6 +104,10 @@ stamps_view {T} fits tag room all clients books views id v new stamps at at_clie
           let gone = ap (taken_weigh h) same.gone in
           let was = stamps.weighed h in
           omega arith;
+      given = each_set (λ j u. IsGiven books u) views id new
+          (given_kept books books v new (λ stamp made listed. listed) same.takings same.gone
+          (stamps.given id v at))
+          (λ j u other there. stamps.given j u there);
     }
 
 -- The same where the client's work in hand stays.

@@ -21,6 +21,7 @@ use Rattle.hcc_rule.specs.Rule.{entry_by, list_weighs, slot_weighs, taken_weigh,
 use Rattle.hcc_rule.proofs.Basics.Lists.{each_map}
 use Rattle.hcc_rule.proofs.Parts.ViewParts.{recorded_kept}
 use Rattle.hcc_rule.proofs.Parts.SlotSteps.{Shard, SameName, SlotStep}
+use Rattle.hcc_rule.proofs.Parts.WorldParts.{given_kept, made_grows}
 use Rattle.hcc_rule.proofs.Parts.Tags.{stamp_kept}
 use Rattle.hcc_rule.proofs.Parts.Touches.{client_is, live_is, stamps_are, was_right, book_is}
 use Rattle.hcc_core.proofs.ListLemmas.{set_same}
@@ -123,6 +124,10 @@ module _ {T : Type 0} (fits : T → Key → List ℕ → Type 0) (p : Plan T) wh
         let gone = ap (taken_weigh h) m.store.gone in
         let made = ap (list_weighs h v.client 0) m.store.made in
         omega arith;
+    given = given_kept r.books (slice_set r.books v.client new.made) v new
+        (made_grows r.books v.client v.made new.made (book_is fits p s r id v m.at_view m.seated)
+        (λ n made there. ap (λ l. slice_get l n) m.store.made ∙ there))
+        m.store.takings m.store.gone (r.stamps.given id v m.at_view);
     usage =
         let was = before.charge in
         let now = later.charge in

@@ -22,7 +22,7 @@ use Rattle.hcc_rule.specs.declared.view.Made.{Made}
 use Rattle.hcc_rule.specs.declared.view.View.{View}
 use Rattle.hcc_rule.specs.Words.{field_at, ledger_at, code_of}
 use Rattle.hcc_rule.specs.Views.{is_seated, held, Each}
-use Rattle.hcc_rule.specs.Rule.{Books, made_at, list_weighs, slot_weighs, taken_weigh, entry_by, IsStored, IsDraft, IsRecorded, IsHolding, IsRight, IsModest, IsTrailed, Stamps, Holds}
+use Rattle.hcc_rule.specs.Rule.{Books, made_at, list_weighs, slot_weighs, taken_weigh, entry_by, IsStored, IsDraft, IsRecorded, IsHolding, IsRight, IsModest, IsTrailed, Stamps, Holds, IsGiven}
 use Rattle.hcc_rule.specs.Acts.{Becomes, IsStepBy, did}
 use Rattle.hcc_rule.proofs.Basics.Lists.{within, word_else}
 use Rattle.hcc_rule.proofs.Parts.Addresses.{fields_apart, ledger_apart, meta_away}
@@ -71,6 +71,7 @@ module _ {T : Type 0} (fits : T → Key → List ℕ → Type 0) (p : Plan T) wh
     pub weighs : (h : Stamp → ℕ)
         → slot_weighs h left + taken_weigh h new.gone + list_weighs h v.client 0 v.made
         ≡ slot_weighs h t + taken_weigh h v.gone + list_weighs h v.client 0 new.made
+    pub given : IsGiven (slice_set r.books v.client new.made) new
     pub usage : charge_of left + charged_to new.work ≡ charge_of t + charged_to v.work
     pub occupancy : taken_by_slot left + occupied_by new.work ≡ taken_by_slot t + occupied_by v.work
     pub standing : standing_of new.work ≡ standing_of v.work
@@ -172,6 +173,7 @@ module _ {T : Type 0} (fits : T → Key → List ℕ → Type 0) (p : Plan T) wh
           books (slice_set s.views id new)
       stamps = stamps_set fits p.tag room all clients r.books s.views i id t left v new r.stamps
           m.at_slot m.at_view at_client at_book m.counted m.right m.paid m.weighs
+          m.grows m.given
 
       short_after : AreShort room books
       short_after stamp made listed = made_short room stamp.client made

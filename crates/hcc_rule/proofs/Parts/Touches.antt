@@ -28,6 +28,7 @@ use Rattle.hcc_rule.specs.Rule.{list_weighs, slot_weighs, taken_weigh, entry_by,
 use Rattle.hcc_rule.proofs.Basics.Lists.{each_map}
 use Rattle.hcc_rule.proofs.Parts.ViewParts.{recorded_kept}
 use Rattle.hcc_rule.proofs.Parts.SlotSteps.{Shard, SameName, SlotStep, near, slot_becomes}
+use Rattle.hcc_rule.proofs.Parts.WorldParts.{given_kept, made_grows}
 use Rattle.hcc_rule.proofs.Parts.Tags.{entry_tag, if_map, quiet, stamp_kept}
 use Rattle.hcc_rule.specs.Acts.{Goes, IsStepBy, did}
 use Rattle.hcc_rule.specs.declared.view.Done.{Done}
@@ -197,6 +198,10 @@ module _ {T : Type 0} (fits : T → Key → List ℕ → Type 0) (p : Plan T) wh
         let gone = ap (taken_weigh h) m.store.gone in
         let made = ap (list_weighs h v.client 0) m.store.made in
         omega arith;
+    given = given_kept r.books (slice_set r.books v.client new.made) v new
+        (made_grows r.books v.client v.made new.made (book_is s r id v m.at_view m.seated)
+        (λ n made there. ap (λ l. slice_get l n) m.store.made ∙ there))
+        m.store.takings m.store.gone (r.stamps.given id v m.at_view);
     usage =
         let charge = charge_alike t left m.like in
         let same_work : charged_to new.work ≡ charged_to v.work = ap charged_to m.work in

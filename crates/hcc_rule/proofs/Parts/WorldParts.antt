@@ -1,6 +1,6 @@
 -- The parts that speak of stamps, ledgers, the hand and trails, and what keeps them at a change of
 -- one slot, one client and its view.
-use Rattle.std.proofs.Common.{◌≡◌, ℕ, ◌+◌, ◌*◌, ◌%◌, ◌^◌, ◌<◌, ◌≢◌, ◌⊎◌, inl, inr, zero, suc, List, [], ◌∷◌, ◌++◌, Some, length, slice_get, slice_set, sym, ap, ◌∙◌, arith}
+use Rattle.std.proofs.Common.{◌≡◌, ℕ, ◌+◌, ◌*◌, ◌%◌, ◌^◌, ◌<◌, ◌≢◌, ◌⊎◌, inl, inr, zero, suc, List, [], ◌∷◌, ◌++◌, Some, length, slice_get, slice_set, sym, ap, ◌∙◌, arith, refl}
 use Rattle.std.specs.Option.{unwrap_or}
 use Rattle.std.proofs.lemmas.Bool.{cases_eq}
 use Rattle.std.proofs.lemmas.List.{length-set}
@@ -20,8 +20,8 @@ use Rattle.hcc_rule.specs.declared.view.Made.{Made}
 use Rattle.hcc_rule.specs.declared.view.Gone.{Gone}
 use Rattle.hcc_rule.specs.declared.view.View.{View}
 use Rattle.hcc_rule.specs.Words.{field_at, ledger_at}
-use Rattle.hcc_rule.specs.Rule.{Books, book_of, made_at, books_weigh, list_weighs, slot_weighs, taken_weigh, IsRight, Stamps, IsModest, Ledgers, IsTrailed, Trails, hand_after}
-use Rattle.hcc_rule.proofs.Basics.Lists.{word_else, each_set}
+use Rattle.hcc_rule.specs.Rule.{Books, book_of, made_at, books_weigh, list_weighs, slot_weighs, taken_weigh, IsRight, Stamps, IsModest, Ledgers, IsTrailed, Trails, hand_after, IsGiven}
+use Rattle.hcc_rule.proofs.Basics.Lists.{word_else, each_set, each_map}
 
 -- Books.
 
@@ -85,6 +85,18 @@ list_weighs_push h c n (y ∷ ys) x m is =
 
 -- Stamps.
 
+-- what was given stays so, for views with the same lists and as long as what was listed stays
+pub given_kept : {T : Type 0} (books after : Books) (v new : View T)
+    → ((stamp : Stamp) (made : Made) → made_at books stamp ≡ Some made
+    → made_at after stamp ≡ Some made)
+    → new.takings ≡ v.takings → new.gone ≡ v.gone → IsGiven books v → IsGiven after new
+given_kept books after v new grows takings gone given = record {
+  count = ap length gone ∙ (given.count ∙ sym takings);
+  each = rw gone (each_map (λ (g : Gone). made_at books g.stamp ≡ Some g.made)
+      (λ (g : Gone). made_at after g.stamp ≡ Some g.made)
+      (λ g listed. grows g.stamp g.made listed) v.gone given.each);
+}
+
 pub stamps_set : {T : Type 0} (fits : T → Key → List ℕ → Type 0) (tag : T) (room : ℕ)
     (all : List Slot) (clients : List Client) (books : Books) (views : List (View T)) (i id : ℕ)
     (t left : Slot) (v new : View T)
@@ -98,10 +110,12 @@ pub stamps_set : {T : Type 0} (fits : T → Key → List ℕ → Type 0) (tag : 
     → ((h : Stamp → ℕ)
     → slot_weighs h left + taken_weigh h new.gone + list_weighs h v.client 0 v.made
     ≡ slot_weighs h t + taken_weigh h v.gone + list_weighs h v.client 0 new.made)
+    → ((n : ℕ) (made : Made) → slice_get v.made n ≡ Some made → slice_get new.made n ≡ Some made)
+    → IsGiven (slice_set books v.client new.made) new
     → Stamps fits tag room (slice_set all i left) (slice_set clients v.client new.work)
     (slice_set books v.client new.made) (slice_set views id new)
 stamps_set {T} fits tag room all clients books views i id t left v new stamps at_slot at_view
-    at_client at_book count right paid weighs = record {
+    at_client at_book count right paid weighs grows given = record {
       sized = length-set books v.client new.made
           ∙ (stamps.sized ∙ sym (length-set clients v.client new.work));
       counted = each_set (λ c client. client.stamps ≡ length (book_of after c)) clients v.client
@@ -133,6 +147,10 @@ stamps_set {T} fits tag room all clients books views i id t left v new stamps at
           let was = stamps.weighed h in
           let owed = weighs h in
           omega arith;
+      given = each_set (λ j u. IsGiven after u) views id new given
+          (λ j u other there. given_kept books after u u
+          (made_grows books v.client v.made new.made at_book grows) refl refl
+          (stamps.given j u there));
     }
   where
     after : Books

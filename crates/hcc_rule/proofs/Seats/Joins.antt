@@ -25,7 +25,7 @@ use Rattle.hcc_rule.specs.declared.view.Gone.{Gone}
 use Rattle.hcc_rule.specs.declared.view.Other.{Other}
 use Rattle.hcc_rule.specs.declared.view.View.{View}
 use Rattle.hcc_rule.specs.Views.{is_seated, held, names, named_by, Each}
-use Rattle.hcc_rule.specs.Rule.{taken_weigh, book_of, IsDraft, IsHolding, IsNamed, IsSeated, Seats, Stamps, IsModest, Ledgers, Trails, resting, Holds, IsBuildingAs, IsTagged}
+use Rattle.hcc_rule.specs.Rule.{taken_weigh, book_of, IsDraft, IsHolding, IsNamed, IsSeated, Seats, Stamps, IsModest, Ledgers, Trails, resting, Holds, IsBuildingAs, IsTagged, IsGiven, made_at}
 use Rattle.hcc_rule.specs.Acts.{did}
 use Rattle.hcc_rule.specs.Passing.{IsIdle, as_other, joined_view, spent_view}
 use Rattle.hcc_rule.proofs.Seats.Passes.{Passed, JoinsBy}
@@ -271,6 +271,18 @@ module _ {T : Type 0} (fits : T → Key → List ℕ → Type 0) (p : Plan T) wh
           spent at still_there (omega arith) in
           let was = r.stamps.weighed h in
           omega arith;
+      given = each_joined (IsGiven r.books)
+          (record {
+            count =
+                let split = length-append v.gone w.gone in
+                let mine = (r.stamps.given id v at).count in
+                let theirs = (r.stamps.given other w there).count in
+                omega arith;
+            each = each_append (λ (g : Gone). made_at r.books g.stamp ≡ Some g.made) v.gone w.gone
+                (r.stamps.given id v at).each (r.stamps.given other w there).each;
+          })
+          record { count = refl; each = tt }
+          (λ j u away at_u. r.stamps.given j u at_u);
     }
 
     ledgers : Ledgers p.geometry.slots p.geometry.room after s.words

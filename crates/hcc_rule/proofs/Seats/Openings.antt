@@ -31,7 +31,7 @@ use Rattle.hcc_rule.specs.Images.{entries_in, made_of_entry, made_from, resident
 use Rattle.hcc_rule.specs.ImageLimits.{charges_of, IsImageEntry, IsImageFor}
 use Rattle.hcc_rule.specs.Probes.{probe_slot, probe_slots, before, trail_to}
 use Rattle.hcc_rule.specs.Views.{Each}
-use Rattle.hcc_rule.specs.Rule.{slot_weighs, Books, book_of, made_at, entry_by, entry_in, setup_of, IsStored, IsDraft, IsHolding, IsNamed, IsRight, IsSeated, Seats, Stamps, Ledgers, Trails, IsTrailed, IsModest, Holds, AreApart, IsTagged}
+use Rattle.hcc_rule.specs.Rule.{slot_weighs, Books, book_of, made_at, entry_by, entry_in, setup_of, IsStored, IsDraft, IsHolding, IsNamed, IsRight, IsSeated, Seats, Stamps, Ledgers, Trails, IsTrailed, IsModest, Holds, AreApart, IsTagged, IsGiven}
 use Rattle.hcc_rule.specs.Words.{entry_of}
 use Rattle.hcc_rule.specs.Acts.{IsFront}
 use Rattle.hcc_rule.specs.Logs.{HoldsLogged, first_logged}
@@ -456,6 +456,7 @@ module _ {T : Type 0} (fits : T → Key → List ℕ → Type 0) (p : Plan T) (c
         let change = books_weigh_set h 0 no_books 0 0 [] first_made no_book (omega arith) in
         let none = books_weigh_none h 0 Clients in
         omega arith;
+    given = only (IsGiven first_books) (opening_view p) record { count = refl; each = tt };
   }
 
   module _ (words : List ℕ) (begins : BeginsWith Size p.geometry.room entries words) where

@@ -19,13 +19,13 @@ use Rattle.hcc_rule.specs.declared.rule.Plan.{Plan}
 use Rattle.hcc_rule.specs.declared.view.Other.{Other}
 use Rattle.hcc_rule.specs.declared.view.View.{View}
 use Rattle.hcc_rule.specs.Views.{is_seated, held, names, named_by, Each}
-use Rattle.hcc_rule.specs.Rule.{taken_weigh, book_of, IsDraft, IsHolding, IsNamed, IsSeated, Seats, Stamps, IsModest, Ledgers, Trails, resting, Holds, IsBuildingAs, IsTagged}
+use Rattle.hcc_rule.specs.Rule.{taken_weigh, book_of, IsDraft, IsHolding, IsNamed, IsSeated, Seats, Stamps, IsModest, Ledgers, Trails, resting, Holds, IsBuildingAs, IsTagged, IsGiven}
 use Rattle.hcc_rule.specs.Opening.{started, fresh_view}
 use Rattle.hcc_rule.specs.Acts.{did}
 use Rattle.hcc_rule.proofs.Seats.Passes.{Passed, SplitsBy}
 use Rattle.hcc_rule.proofs.Basics.Lists.{within, each_set}
 use Rattle.hcc_rule.proofs.Parts.ViewParts.{total-two, when_few, when_is, seated_else, others_else}
-use Rattle.hcc_rule.proofs.Parts.WorldParts.{hand_same}
+use Rattle.hcc_rule.proofs.Parts.WorldParts.{given_kept, hand_same}
 use Rattle.hcc_rule.proofs.References.Looks.{client_fits}
 use Rattle.hcc_rule.proofs.Parts.SlotSteps.{Shard}
 use Rattle.hcc_rule.proofs.Parts.Tags.{tagged_carried, tagged_none}
@@ -234,6 +234,12 @@ module _ {T : Type 0} (fits : T → Key → List ℕ → Type 0) (p : Plan T) wh
           (omega arith) in
           let was = r.stamps.weighed h in
           omega arith;
+      given = each_snoc (IsGiven r.books) (slice_set s.views id left) right
+          record { count = refl; each = tt }
+          (each_set (λ j u. IsGiven r.books u) s.views id left
+          (given_kept r.books r.books v left (λ stamp made listed. listed) refl refl
+          (r.stamps.given id v at))
+          (λ j u other there. r.stamps.given j u there));
     }
 
     ledgers : Ledgers p.geometry.slots p.geometry.room after s.words
