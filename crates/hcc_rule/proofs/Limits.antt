@@ -4,6 +4,7 @@ pub mod SlotLimits
 pub mod Passed
 pub mod Rounds
 pub mod MadeEntries
+pub mod MadeOnce
 pub mod MadeCharges
 pub mod Beginnings
 pub mod TrailLimits

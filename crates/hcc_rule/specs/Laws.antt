@@ -1,19 +1,22 @@
 -- The words of a state, by their names, for what holds of every state that keeps the rule.
-use Rattle.std.specs.Prelude.{◌≡◌, ℕ, zero, suc, ◌+◌, ◌%◌, ◌^◌, ◌<◌, Bool, true, List, [], ◌++◌, Some, map, slice_get, slice_index}
+use Rattle.std.specs.Prelude.{◌≡◌, ℕ, zero, suc, ◌+◌, ◌%◌, ◌^◌, ◌<◌, Bool, true, List, [], ◌++◌, Some, map, slice_get, slice_index, ◌&&◌, ◌==◌, length}
 use Rattle.std.specs.List.{range_with_len}
 use Rattle.atomic_table.specs.Table as table
 use Rattle.hcc_word.specs.Word.{is_shareable, refs_of}
 use Rattle.hcc_core.specs.declared.limits.TheConstants.{SLOTS_PER_TURN}
 use Rattle.hcc_core.specs.declared.slot.Entry.{Entry}
 use Rattle.hcc_core.specs.declared.slot.Stamp.{Stamp}
-use Rattle.hcc_core.specs.Sums.{total}
+use Rattle.hcc_core.specs.Sums.{total, when}
 use Rattle.hcc_rule.specs.declared.key.Key.{Key}
 use Rattle.hcc_rule.specs.declared.layout.TheConstants.{META, DISPLACEMENT, DATA}
 use Rattle.hcc_rule.specs.declared.rule.Plan.{Plan}
+use Rattle.hcc_rule.specs.declared.view.Gone.{Gone}
 use Rattle.hcc_rule.specs.declared.view.Logged.{Logged}
+use Rattle.hcc_rule.specs.declared.view.Made.{Made}
 use Rattle.hcc_rule.specs.declared.view.Record.{Record}
 use Rattle.hcc_rule.specs.declared.view.View.{View}
-use Rattle.hcc_rule.specs.Closing.{IsKept}
+use Rattle.hcc_rule.specs.Closing.{IsKept, list_by, over_entries}
+use Rattle.hcc_rule.specs.Rule.{taken_weigh}
 use Rattle.hcc_rule.specs.ToldOwners.{IsDataWord}
 use Rattle.hcc_rule.specs.Views.{names, Each}
 use Rattle.hcc_rule.specs.Records.{weight_on}
@@ -60,6 +63,35 @@ module _ {T : Type 0} (p : Plan T) (s : StateOf T) where
   HasWordsOfRecords slot v = Each (λ (r : Record). r.slot ≡ slot → HasWordsOf slot r.entry)
       v.records
 
+-- Where what was shown is.
+
+-- a weighing of stamps that finds this one
+abbrev pub one_of : Stamp → Stamp → ℕ
+one_of stamp other = when (other.client == stamp.client && other.number == stamp.number) 1
+
+module _ {T : Type 0} (s : StateOf T) where
+  -- how often views took the entry of this stamp
+  abbrev pub times_taken : Stamp → ℕ
+  times_taken stamp = total (λ (v : View T). taken_weigh (one_of stamp) v.gone) s.views
+
+  -- this was shown under this stamp: a view of the state names that client, and its list has it as
+  -- the member of the stamp's number
+  pub record IsListed (stamp : Stamp) (made : Made) : Type 0 where
+    pub number : ℕ
+    pub maker : View T
+    pub seen : slice_get s.views number ≡ Some maker
+    pub named : names stamp.client maker ≡ 1
+    pub listed : slice_get (list_by maker stamp.client) stamp.number ≡ Some made
+
+  -- what a view took is as many entries as it counts, and each was shown
+  pub record HasTaken (v : View T) : Type 0 where
+    pub count : length v.gone ≡ v.takings
+    pub each : Each (λ (g : Gone). IsListed g.stamp g.made) v.gone
+
+  -- nobody took the entry of any of its records
+  abbrev pub HoldsNothingTaken : View T → Type 0
+  HoldsNothingTaken v = Each (λ (r : Record). times_taken r.entry.stamp ≡ 0) v.records
+
 module _ {T : Type 0} (fits : T → Key → List ℕ → Type 0) (p : Plan T) (s : StateOf T) where
   -- In this slot stands what its maker made under this stamp: a view of the state names that
   -- client, and its list has a member of the stamp's number, whose data words are the slot's, the
@@ -71,7 +103,7 @@ module _ {T : Type 0} (fits : T → Key → List ℕ → Type 0) (p : Plan T) (s
     pub named : names stamp.client maker ≡ 1
     pub kept : IsKept fits p.tag p.geometry.room s.words maker slot stamp
 
-  -- in each slot with an entry stands what was made, and no two have the same
+  -- In each slot with an entry stands what was made, and no two have the same.
   pub record AreMade : Type 0 where
     pub stamp_at : ℕ → Stamp
     pub made : (slot : ℕ) → slot < p.geometry.slots → has_entry p s slot ≡ true
@@ -79,6 +111,11 @@ module _ {T : Type 0} (fits : T → Key → List ℕ → Type 0) (p : Plan T) (s
     pub apart : (i j : ℕ) → i < p.geometry.slots → j < p.geometry.slots
         → has_entry p s i ≡ true → has_entry p s j ≡ true
         → stamp_at i ≡ stamp_at j → i ≡ j
+    -- what was shown stands in one slot and nobody took it, or one view took it once and it stands
+    -- in none
+    pub once : (stamp : Stamp) (made : Made) → IsListed s stamp made
+        → over_entries p.geometry.room s.words p.geometry.slots
+        (λ slot. one_of stamp (stamp_at slot)) + times_taken s stamp ≡ 1
 
   -- the entry of a record is what was made that stands in its slot
   pub record IsOfMade (r : Record) : Type 0 where

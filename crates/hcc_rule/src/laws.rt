@@ -31,7 +31,7 @@ ghost use Rattle.hcc_rule.specs.Acts.{IsAllowed, IsFront, IsKnown, IsNoStepOf, I
 ghost use Rattle.hcc_rule.specs.Closing.{key_at};
 ghost use Rattle.hcc_rule.specs.Images.{entries_in};
 ghost use Rattle.hcc_rule.specs.ImageLimits.{AreRising, IsImageFor};
-ghost use Rattle.hcc_rule.specs.Laws.{LoggedStateOf, StateOf, due_in, ledger_word, displacement_word, has_entry, references_counted, references_held, AreMade, AreOfMade, HasWordsOfRecords};
+ghost use Rattle.hcc_rule.specs.Laws.{LoggedStateOf, StateOf, due_in, ledger_word, displacement_word, has_entry, references_counted, references_held, AreMade, AreOfMade, HasTaken, HasWordsOfRecords, HoldsNothingTaken};
 ghost use Rattle.hcc_rule.specs.Logs.{HasBegun, HoldsLogged, first_logged, moves_in};
 ghost use Rattle.hcc_rule.specs.Opening.{begun_world};
 ghost use Rattle.hcc_rule.specs.Probes.{probe_slot};
@@ -122,12 +122,22 @@ pub fn law_hand<T: Tag>()
 /// The entries, and what clients made.
 pub fn law_made<T: Tag>()
     // In each slot with an entry stands one insertion, whoever holds it: its key, its value, its
-    // charge and its serial are a member of its maker's list. No two slots have the same.
+    // charge and its serial are a member of its maker's list. No two slots have the same. Each
+    // member of such a list stands in one slot and nobody took it, or one view took it once and it
+    // stands in none.
     ensures slots { (p : Plan T) (s : StateOf T) → Holds T.fits p s → AreMade T.fits p s }
 
     // So is the entry of each record of each view.
     ensures records { (p : Plan T) (s : StateOf T) → Holds T.fits p s → (number : ℕ) (v : View T)
         → slice_get s.views number ≡ Some v → AreOfMade T.fits p s v }
+
+    // So is each entry that a view took, and it took as many as it counts.
+    ensures taken { (p : Plan T) (s : StateOf T) → Holds T.fits p s → (number : ℕ) (v : View T)
+        → slice_get s.views number ≡ Some v → HasTaken s v }
+
+    // Nobody took what anyone holds.
+    ensures held { (p : Plan T) (s : StateOf T) → Holds T.fits p s → (number : ℕ) (v : View T)
+        → slice_get s.views number ≡ Some v → HoldsNothingTaken s v }
 {}
 
 /// The trails of entries, by which searches end.

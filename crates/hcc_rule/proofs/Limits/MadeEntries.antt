@@ -20,8 +20,8 @@ use Rattle.hcc_rule.specs.declared.view.Record.{Record}
 use Rattle.hcc_rule.specs.declared.view.View.{View}
 use Rattle.hcc_rule.specs.declared.layout.TheConstants.{CHARGE, KEY0, KEY1}
 use Rattle.hcc_rule.specs.Closing.{data_at, key_at, list_by}
-use Rattle.hcc_rule.specs.Laws.{has_entry, IsMade, AreMade, IsOfMade, AreOfMade}
-use Rattle.hcc_rule.specs.Rule.{entry_in, IsNamed, IsRecorded, IsSeated, IsStored, Holds}
+use Rattle.hcc_rule.specs.Laws.{has_entry, IsMade, AreMade, IsOfMade, AreOfMade, IsListed}
+use Rattle.hcc_rule.specs.Rule.{entry_in, IsNamed, IsRecorded, IsSeated, IsStored, Holds, made_at}
 use Rattle.hcc_rule.specs.Views.{is_seated, names}
 use Rattle.hcc_rule.specs.Words.{entry_of, key_of, made_words}
 use Rattle.hcc_rule.proofs.Basics.Findings.{find_each, find_passes, some_found}
@@ -29,6 +29,7 @@ use Rattle.hcc_rule.proofs.Basics.Lists.{each_map, within}
 use Rattle.hcc_rule.proofs.Parts.Addresses.{data_field}
 use Rattle.hcc_rule.proofs.Parts.Codes.{tells_entry}
 use Rattle.hcc_rule.proofs.Parts.SlotSteps.{Shard}
+use Rattle.hcc_rule.proofs.Parts.WorldParts.{book_there}
 use Rattle.hcc_rule.proofs.References.Looks.{slot_there}
 
 -- where a sum is 1, one member gives it
@@ -59,7 +60,7 @@ module _ {T : Type 0} (fits : T → Key → List ℕ → Type 0) (p : Plan T) (s
             let none : names c u ≡ 0 = rw (is, (seat.spent is).1) refl in absurd (omega arith)
         by (Some t) is = ap is_some is
 
-    book_named : slice_get r.books c ≡ Some (list_by u c)
+    pub book_named : slice_get r.books c ≡ Some (list_by u c)
     book_named = by (u.client == c) refl
       where
         named : (o : Other) → find (is_of c) u.others ≡ Some o
@@ -88,6 +89,37 @@ module _ {T : Type 0} (fits : T → Key → List ℕ → Type 0) (p : Plan T) (s
   maker_of c near = one_gives (names c) s.views
       (r.seats.once c ∙ ap (λ b. when b 1) (lt-ltb c (length r.world.clients) near))
 
+  -- what was shown is of a client
+  shown_near : (stamp : Stamp) (made : Made) → made_at r.books stamp ≡ Some made
+      → stamp.client < length r.world.clients
+  shown_near stamp made listed =
+      let book = book_there r.books stamp made listed in
+      let near = within r.books stamp.client book.0 book.1 in
+      let sized = r.stamps.sized in
+      omega arith
+
+  -- so it is in the list of a view that names its maker
+  pub listed_by : (stamp : Stamp) (made : Made) → made_at r.books stamp ≡ Some made
+      → IsListed s stamp made
+  listed_by stamp made listed =
+      let maker = maker_of stamp.client (shown_near stamp made listed) in
+      let book = book_named maker.0 stamp.client maker.1 maker.2 maker.3 in
+      record {
+        number = maker.0;
+        maker = maker.1;
+        seen = maker.2;
+        named = maker.3;
+        listed = ap (λ o. slice_get (unwrap_or o []) stamp.number) (sym book) ∙ listed;
+      }
+
+  -- and what is in such a list was shown
+  pub shown_by : (stamp : Stamp) (made : Made) → IsListed s stamp made
+      → made_at r.books stamp ≡ Some made
+  shown_by stamp made l =
+      ap (λ o. slice_get (unwrap_or o []) stamp.number)
+      (book_named l.number stamp.client l.maker l.seen l.named)
+      ∙ l.listed
+
   module _ (slot : ℕ) (entry : Entry)
       (here : entry_in (slice_get r.world.slots slot) ≡ Some entry) where
     stored : IsStored p.geometry.room s.words r.books slot entry
@@ -114,34 +146,20 @@ module _ {T : Type 0} (fits : T → Key → List ℕ → Type 0) (p : Plan T) (s
 
     -- an entry's maker is a client
     pub maker_near : entry.stamp.client < length r.world.clients
-    maker_near = by (slice_get r.books entry.stamp.client) refl
-      where
-        by : (o : Option (List Made)) → slice_get r.books entry.stamp.client ≡ o
-            → entry.stamp.client < length r.world.clients
-        by None none =
-            let bad : None ≡ Some stored.made =
-            ap (λ o. slice_get (unwrap_or o []) entry.stamp.number) (sym none)
-            ∙ stored.listed in
-            cc
-        by (Some b) some =
-            let near = within r.books entry.stamp.client b some in
-            let sized = r.stamps.sized in
-            omega arith
+    maker_near = shown_near entry.stamp stored.made stored.listed
 
     -- an entry that stands is what its maker made
     is_made : (m : IsMade fits p s slot entry.stamp) × (entry ≡ entry_of entry.stamp m.kept.made)
     is_made =
-        let maker = maker_of entry.stamp.client maker_near in
-        let book = book_named maker.0 entry.stamp.client maker.1 maker.2 maker.3 in (
+        let made = listed_by entry.stamp stored.made stored.listed in (
           record {
-            number = maker.0;
-            maker = maker.1;
-            seen = maker.2;
-            named = maker.3;
+            number = made.number;
+            maker = made.maker;
+            seen = made.seen;
+            named = made.named;
             kept = record {
               made = stored.made;
-              listed = ap (λ o. slice_get (unwrap_or o []) entry.stamp.number) (sym book)
-                  ∙ stored.listed;
+              listed = made.listed;
               says = λ i near. ap (slice_index s.words) (sym (data_field p.geometry.room slot i))
                   ∙ stored.lies i near;
               right = r.stamps.right entry.stamp stored.made stored.listed;
@@ -203,14 +221,11 @@ module _ {T : Type 0} (fits : T → Key → List ℕ → Type 0) (p : Plan T) (s
       world.stamped.apart i j (stamp_at i) (stamped i near_i has_i)
       (stamped j near_j has_j ∙ ap Some (sym same))
 
-  -- so each slot with an entry has what was made under its stamp
-  pub slots_made : AreMade fits p s
-  slots_made = record {
-    stamp_at = stamp_at;
-    made = λ k near has. let e = resident_at k near has in by k e.0 e.1;
-    apart = apart;
-  }
+  -- so a slot with an entry has what was made under its stamp
+  pub slot_made : (k : ℕ) → k < p.geometry.slots → has_entry p s k ≡ true
+      → IsMade fits p s k (stamp_at k)
+  slot_made k near has = let e = resident_at k near has in by e.0 e.1
     where
-      by : (k : ℕ) (e : Resident) → slice_get r.world.slots k ≡ Some (slots.Shareable e)
+      by : (e : Resident) → slice_get r.world.slots k ≡ Some (slots.Shareable e)
           → IsMade fits p s k (stamp_at k)
-      by k e is = rw (stamp_told k e is) (is_made k e.entry (ap entry_in is)).0
+      by e is = rw (stamp_told k e is) (is_made k e.entry (ap entry_in is)).0

@@ -1,6 +1,6 @@
 -- The parts that speak of stamps, ledgers, the hand and trails, and what keeps them at a change of
 -- one slot, one client and its view.
-use Rattle.std.proofs.Common.{◌≡◌, ℕ, ◌+◌, ◌*◌, ◌%◌, ◌^◌, ◌<◌, ◌≢◌, ◌⊎◌, inl, inr, zero, suc, List, [], ◌∷◌, ◌++◌, Some, length, slice_get, slice_set, sym, ap, ◌∙◌, arith, refl}
+use Rattle.std.proofs.Common.{◌≡◌, ℕ, ◌+◌, ◌*◌, ◌%◌, ◌^◌, ◌<◌, ◌≢◌, ◌⊎◌, inl, inr, zero, suc, List, [], ◌∷◌, ◌++◌, Some, length, slice_get, slice_set, sym, ap, ◌∙◌, arith, refl, Option, None}
 use Rattle.std.specs.Option.{unwrap_or}
 use Rattle.std.proofs.lemmas.Bool.{cases_eq}
 use Rattle.std.proofs.lemmas.List.{length-set}
@@ -50,6 +50,25 @@ made_grows books c old new at grows stamp made listed = elim (cases_eq stamp.cli
   | inr other ↦ ap (λ l. slice_get l stamp.number) (book_else books c stamp.client new other)
       ∙ listed
 ]
+
+-- what was shown is in a list
+pub book_there : (books : Books) (stamp : Stamp) (made : Made) → made_at books stamp ≡ Some made
+    → (book : List Made) × (slice_get books stamp.client ≡ Some book)
+    × (slice_get book stamp.number ≡ Some made)
+book_there books stamp made listed = by (slice_get books stamp.client) refl
+  where
+    by : (o : Option (List Made)) → slice_get books stamp.client ≡ o
+        → (book : List Made) × (slice_get books stamp.client ≡ Some book)
+        × (slice_get book stamp.number ≡ Some made)
+    by None none =
+        let bad : None ≡ Some made =
+        ap (λ o. slice_get (unwrap_or o []) stamp.number) (sym none) ∙ listed in
+        cc
+    by (Some book) some = (
+      book,
+      some,
+      ap (λ o. slice_get (unwrap_or o []) stamp.number) (sym some) ∙ listed,
+    )
 
 -- Weighings.
 
