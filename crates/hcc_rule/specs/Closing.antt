@@ -13,13 +13,14 @@ use Rattle.hcc_rule.specs.declared.geometry.Geometry.{Geometry}
 use Rattle.hcc_rule.specs.declared.key.Key.{Key}
 use Rattle.hcc_rule.specs.declared.layout.TheConstants.{META, DISPLACEMENT, DATA, KEY0, KEY1, CHARGE, USAGE, OCCUPANCY, STANDING, HAND}
 use Rattle.hcc_rule.specs.declared.rule.Plan.{Plan}
+use Rattle.hcc_rule.specs.declared.view.Gone.{Gone}
 use Rattle.hcc_rule.specs.declared.view.Made.{Made}
 use Rattle.hcc_rule.specs.declared.view.Other.{Other}
 use Rattle.hcc_rule.specs.declared.view.View.{View}
 use Rattle.hcc_rule.specs.Passing.{IsIdle}
 use Rattle.hcc_rule.specs.Probes.{trail_to}
-use Rattle.hcc_rule.specs.Rule.{hand_at, Holds, IsRight}
-use Rattle.hcc_rule.specs.Views.{named_by}
+use Rattle.hcc_rule.specs.Rule.{hand_at, Holds, IsRight, list_weighs, taken_weigh}
+use Rattle.hcc_rule.specs.Views.{named_by, Each}
 use Rattle.hcc_rule.specs.Records.{weight_on}
 use Rattle.hcc_rule.specs.Words.{field_at, ledger_at, made_words}
 
@@ -123,7 +124,16 @@ pub record Closes {T : Type 0} (fits : T → Key → List ℕ → Type 0) (tag :
   -- the entries are as many as were made less those that were taken
   pub left : over_entries geometry.room words geometry.slots (λ s. 1) + v.takings
       ≡ length v.made + total (λ (o : Other). length o.made) v.others
-  -- they are within the limit
+  -- what was made stands in one slot or was taken once: by every weighing of stamps
+  pub weighed : (h : Stamp → ℕ)
+      → over_entries geometry.room words geometry.slots (λ s. h (stamp_at s)) + taken_weigh h v.gone
+      ≡ list_weighs h v.client 0 v.made
+      + total (λ (o : Other). list_weighs h o.client 0 o.made) v.others
+  -- what was taken is as many entries as the view counts, and each is of the list of its maker
+  pub counted : length v.gone ≡ v.takings
+  pub taken : Each (λ (g : Gone). slice_get (list_by v g.stamp.client) g.stamp.number ≡ Some g.made)
+      v.gone
+  -- the entries are within the limit
   pub places : over_entries geometry.room words geometry.slots (λ s. 1)
       ≤ geometry.slots * OCCUPANCY_PERCENT / 100
   -- the hand is where the turns of all clients left it

@@ -21,10 +21,10 @@ impl<T: Tag, A: Allocator> RuleTable<T, A> {
     /// the rule and has the seat's view, which names at most as many clients as the shard has.
     /// Where that view names every client and its own has nothing in hand, they tell more: the
     /// ledger words and the displacement words are only those of the entries, each entry is one of
-    /// the made lists and no two are the same, a slot without an entry has at most strays, the
-    /// entries are as many as were made less those that were taken, and the hand is where all turns
-    /// left it. Uses and places are within the limits of an image, and under strict capacity so are
-    /// the charges.
+    /// the made lists and no two are the same, a slot without an entry has at most strays, each
+    /// member of the made lists stands in one slot or was taken, once, and the hand is where all
+    /// turns left it. Uses and places are within the limits of an image, and under strict capacity
+    /// so are the charges.
     ///
     /// They are then the words of one world: the one to which the events lead that the seat knows,
     /// from the world that the shard began with. The machine allows these events. Each meta word,

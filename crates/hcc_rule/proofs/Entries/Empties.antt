@@ -90,7 +90,13 @@ module _ {T : Type 0} (fits : T → Key → List ℕ → Type 0) (p : Plan T) wh
             same =
                 record { tag = refl; client = refl; others = refl; turns = refl; glimpse = refl };
             work = refl;
-            store = record { records = refl; made = refl; takings = refl; gone = refl; written = refl };
+            store = record {
+              records = refl;
+              made = refl;
+              takings = refl;
+              gone = refl;
+              written = refl;
+            };
             allowed = empty_allowed r.world me.0.client i me.0.work (is_lawful r.world r.lawful)
                 (client_is fits p s r id me.0 at_view seated)
                 (live_is fits p s r id me.0 at_view seated) owns back;

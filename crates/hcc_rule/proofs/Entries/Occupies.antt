@@ -201,7 +201,13 @@ module _ {T : Type 0} (fits : T → Key → List ℕ → Type 0) (p : Plan T) wh
           seated = seated;
           same = record { tag = refl; client = refl; others = refl; turns = refl; glimpse = refl };
           work = refl;
-          store = record { records = refl; made = refl; takings = refl; gone = refl; written = refl };
+          store = record {
+            records = refl;
+            made = refl;
+            takings = refl;
+            gone = refl;
+            written = refl;
+          };
           allowed = occupy_takes r.world me.0.client i strays me.0.work l at_slot
               (client_is fits p s r id me.0 at seated) (live_is fits p s r id me.0 at seated) free;
           bare = refl;

@@ -10,6 +10,7 @@ use Rattle.hcc_core.specs.Lawful.{Lawful, owned_slot}
 use Rattle.hcc_core.proofs.Opening.{is_lawful}
 use Rattle.hcc_rule.specs.declared.key.Key.{Key}
 use Rattle.hcc_rule.specs.declared.rule.Plan.{Plan}
+use Rattle.hcc_rule.specs.declared.view.Made.{Made}
 use Rattle.hcc_rule.specs.declared.view.Other.{Other}
 use Rattle.hcc_rule.specs.declared.view.View.{View}
 use Rattle.hcc_rule.specs.Closing.{IsBack, list_by}
@@ -29,11 +30,11 @@ pub record IsQuiet (client : Client) : Type 0 where
   pub trail : client.trail ≡ []
   pub owned : owned_slot client.owned ≡ None
 
--- what a view's clients made, of one client
-abbrev pub made_of : {T : Type 0} → View T → ℕ → ℕ
-made_of v c =
-    when (v.client == c) (length v.made)
-    + total (λ (o : Other). when (o.client == c) (length o.made)) v.others
+-- what the lists of a view's clients give, of one client
+abbrev pub made_of : {T : Type 0} → ((client : ℕ) → List Made → ℕ) → View T → ℕ → ℕ
+made_of f v c =
+    when (v.client == c) (f v.client v.made)
+    + total (λ (o : Other). when (o.client == c) (f o.client o.made)) v.others
 
 module _ {T : Type 0} (fits : T → Key → List ℕ → Type 0) (p : Plan T) (s : Shard fits p)
     (r : Holds fits p s)
@@ -83,7 +84,7 @@ module _ {T : Type 0} (fits : T → Key → List ℕ → Type 0) (p : Plan T) (s
   pub record IsKnown (c : ℕ) (client : Client) : Type 0 where
     pub quiet : IsQuiet client
     pub book : slice_get r.books c ≡ Some (list_by v c)
-    pub made : length (list_by v c) ≡ made_of v c
+    pub made : (f : (client : ℕ) → List Made → ℕ) → f c (list_by v c) ≡ made_of f v c
 
   -- whether it is this client
   abbrev is_of : ℕ → Other → Bool
@@ -107,8 +108,6 @@ module _ {T : Type 0} (fits : T → Key → List ℕ → Type 0) (p : Plan T) (s
         let both : Some client ≡ Some v.work =
         sym there ∙ (ap (slice_get r.world.clients) (sym same) ∙ mine.work seated) in
         let hand : client ≡ v.work = cc in
-        let none = none_weighs (is_of c) (λ (o : Other). length o.made) v.others
-        (let once = others_once true is in omega arith) in
         rw hand record {
           quiet = record {
             charged = rw back.idle refl;
@@ -118,7 +117,11 @@ module _ {T : Type 0} (fits : T → Key → List ℕ → Type 0) (p : Plan T) (s
             owned = rw back.idle refl;
           };
           book = rw is (ap (slice_get r.books) (sym same) ∙ mine.book seated);
-          made = rw is (omega arith);
+          made = λ f.
+              let none = none_weighs (is_of c) (λ (o : Other). f o.client o.made) v.others
+              (let once = others_once true is in omega arith) in
+              let mine : f v.client v.made ≡ f c v.made = ap (λ k. f k v.made) same in
+              rw is (omega arith);
         }
 
     -- one that it names beside it
@@ -138,8 +141,6 @@ module _ {T : Type 0} (fits : T → Key → List ℕ → Type 0) (p : Plan T) (s
             let both : Some client ≡ Some (resting o.made o.dead) =
             sym there ∙ (ap (slice_get r.world.clients) (sym same) ∙ is_named.there) in
             let rests : client ≡ resting o.made o.dead = cc in
-            let one = one_weighs (is_of c) (λ (q : Other). length q.made) v.others o found
-            (omega arith) in
             rw rests record {
               quiet = record {
                 charged = refl;
@@ -150,7 +151,11 @@ module _ {T : Type 0} (fits : T → Key → List ℕ → Type 0) (p : Plan T) (s
                 owned = refl;
               };
               book = rw (is, found) (ap (slice_get r.books) (sym same) ∙ is_named.book);
-              made = rw (is, found) (omega arith);
+              made = λ f.
+                  let one = one_weighs (is_of c) (λ (q : Other). f q.client q.made) v.others o found
+                  (omega arith) in
+                  let theirs : f o.client o.made ≡ f c o.made = ap (λ k. f k o.made) same in
+                  rw (is, found) (omega arith);
             }
 
     -- either way it is known

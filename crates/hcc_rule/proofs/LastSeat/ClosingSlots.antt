@@ -13,30 +13,34 @@ use Rattle.hcc_core.specs.declared.slot.Resident.{Resident}
 use Rattle.hcc_core.specs.declared.setup.Setup.{Setup}
 use Rattle.hcc_core.specs.declared.slot.Slot.{Slot}
 use Rattle.hcc_core.specs.declared.slot.Slot.TheVariants as slots
+use Rattle.hcc_core.specs.declared.slot.Stamp.{Stamp}
 use Rattle.hcc_core.specs.Sums.{when, total}
 use Rattle.hcc_core.specs.World.{taken_by_slot, charge_of, charged_to, occupied_by, standing_of, trail_of, times, is_shareable as slot_has_entry}
 use Rattle.hcc_core.specs.Lawful.{Lawful, owned_by, owner_in}
 use Rattle.hcc_rule.specs.declared.key.Key.{Key}
 use Rattle.hcc_rule.specs.declared.layout.TheConstants.{CHARGE, HAND}
 use Rattle.hcc_rule.specs.declared.rule.Plan.{Plan}
+use Rattle.hcc_rule.specs.declared.view.Gone.{Gone}
 use Rattle.hcc_rule.specs.declared.view.Made.{Made}
 use Rattle.hcc_rule.specs.declared.view.Other.{Other}
 use Rattle.hcc_rule.specs.declared.view.View.{View}
 use Rattle.hcc_rule.specs.Closing.{meta_at, data_at, key_at, has_entry, over_entries, list_by, IsBack, IsSettled, IsKept, IsWithin}
 use Rattle.hcc_rule.specs.Probes.{trail_to}
-use Rattle.hcc_rule.specs.Rule.{resting, entry_in, hand_at, IsNamed, IsSpent, IsStored, Holds}
+use Rattle.hcc_rule.specs.Rule.{resting, entry_in, hand_at, IsNamed, IsSpent, IsStored, Holds, made_at, list_weighs, taken_weigh}
 use Rattle.hcc_rule.specs.Views.{is_seated, held, Each}
 use Rattle.hcc_rule.specs.Records.{weight_on}
 use Rattle.hcc_rule.specs.Words.{ledger_at}
 use Rattle.hcc_rule.proofs.Parts.Addresses.{data_field}
 use Rattle.hcc_rule.proofs.Parts.Clients.{total-nothing, total-only}
 use Rattle.hcc_rule.proofs.LastSeat.ClosingClients.{IsQuiet, made_of, lawful, client_count, slot_count, spent, known, book_known}
-use Rattle.hcc_rule.proofs.LastSeat.ClosingSums.{total_range, total_both, one_at, made_by_client}
+use Rattle.hcc_rule.proofs.LastSeat.ClosingSums.{total_range, total_both, one_at, given_by_client, books_range}
 use Rattle.hcc_rule.proofs.Parts.Codes.{few_strays, is_near, tells_entry}
 use Rattle.hcc_rule.proofs.Basics.Lists.{there, within, each_map}
 use Rattle.hcc_rule.proofs.Limits.LedgerLimits.{places_limit, real_limit}
 use Rattle.hcc_rule.proofs.Limits.MadeEntries.{charge_is, key_is, resident_at, stamp_at, stamp_told}
+use Rattle.hcc_rule.proofs.Limits.MadeOnce.{standing_weighs}
 use Rattle.hcc_rule.proofs.Parts.SlotSteps.{Shard}
+use Rattle.hcc_rule.proofs.Parts.WorldParts.{book_there}
 
 -- an empty slot's word is its strays
 pub strays_are : (strays : ℕ) → code_of_empty strays ≡ strays
@@ -116,6 +120,17 @@ module _ {T : Type 0} (fits : T → Key → List ℕ → Type 0) (p : Plan T) (s
       (λ k slot is. each k slot is ∙ ap (λ b. when b (g k)) (sym (entry_told k slot is)))
       ∙ ap (λ n. over_entries room s.words n g) slots_are
 
+  -- what was shown is in the view's list of its maker
+  listed_known : (stamp : Stamp) (made : Made) → made_at r.books stamp ≡ Some made
+      → slice_get (list_by v stamp.client) stamp.number ≡ Some made
+  listed_known stamp made is =
+      let shown = book_there r.books stamp made is in
+      let near = within r.books stamp.client shown.0 shown.1 in
+      let sized = r.stamps.sized in
+      let clients = clients_are in
+      let book = book_known fits p s r id v at seated back stamp.client (omega arith) in
+      ap (λ o. slice_get (unwrap_or o []) stamp.number) (sym book) ∙ is
+
   -- The data words of an entry.
 
   module _ (k : ℕ) (e : Resident) (is : slice_get r.world.slots k ≡ Some (slots.Shareable e)) where
@@ -125,22 +140,7 @@ module _ {T : Type 0} (fits : T → Key → List ℕ → Type 0) (p : Plan T) (s
 
     -- its client's list has it
     pub listed : slice_get (list_by v e.entry.stamp.client) e.entry.stamp.number ≡ Some stored.made
-    listed = by (slice_get r.books e.entry.stamp.client) refl
-      where
-        by : (o : Option (List Made)) → slice_get r.books e.entry.stamp.client ≡ o
-            → slice_get (list_by v e.entry.stamp.client) e.entry.stamp.number ≡ Some stored.made
-        by None none =
-            let bad : None ≡ Some stored.made =
-            ap (λ o. slice_get (unwrap_or o []) e.entry.stamp.number) (sym none)
-            ∙ stored.listed in
-            cc
-        by (Some b) some =
-            let near = within r.books e.entry.stamp.client b some in
-            let sized = r.stamps.sized in
-            let clients = clients_are in
-            let book = book_known fits p s r id v at seated back e.entry.stamp.client
-            (omega arith) in
-            ap (λ o. slice_get (unwrap_or o []) e.entry.stamp.number) (sym book) ∙ stored.listed
+    listed = listed_known e.entry.stamp stored.made stored.listed
 
   -- The sums.
 
@@ -292,16 +292,17 @@ module _ {T : Type 0} (fits : T → Key → List ℕ → Type 0) (p : Plan T) (s
   books_are : length r.books ≡ p.geometry.clients
   books_are = r.stamps.sized ∙ clients_are
 
-  -- it has as many members as the view says
-  made_in : (c : ℕ) (b : List Made) → slice_get r.books c ≡ Some b → length b ≡ made_of v c
-  made_in c b is =
+  -- it gives what the view's list of its client does
+  made_in : (f : (client : ℕ) → List Made → ℕ) (c : ℕ) (b : List Made)
+      → slice_get r.books c ≡ Some b → f c b ≡ made_of f v c
+  made_in f c b is =
       let near = within r.books c b is in
       let sized = r.stamps.sized in
       let client = there r.world.clients c (omega arith) in
       let about = known fits p s r id v at seated back c client.0 client.1 in
       let both : Some b ≡ Some (list_by v c) = sym is ∙ about.book in
       let same : b ≡ list_by v c = cc in
-      ap length same ∙ about.made
+      ap (f c) same ∙ about.made f
 
   -- the clients that the view names are those of the shard
   own_low : v.client < p.geometry.clients
@@ -321,21 +322,23 @@ module _ {T : Type 0} (fits : T → Key → List ℕ → Type 0) (p : Plan T) (s
           let clients = clients_are in
           omega arith
 
-  -- all that was made, summed over the view's lists
-  all_made : total length r.books ≡ length v.made + total (λ (o : Other). length o.made) v.others
-  all_made =
-      total_range length (made_of v) r.books made_in
-      ∙ (ap (λ n. total (made_of v) (range_with_len 0 n)) books_are
+  -- what all lists give, summed over the view's lists
+  all_made : (f : (client : ℕ) → List Made → ℕ)
+      → total (made_of f v) (range_with_len 0 (length r.books))
+      ≡ f v.client v.made + total (λ (o : Other). f o.client o.made) v.others
+  all_made f =
+      ap (λ n. total (made_of f v) (range_with_len 0 n)) books_are
       ∙ (total_both own others (range_with_len 0 p.geometry.clients)
-      ∙ (let mine = one_at v.client (length v.made) p.geometry.clients own_low in
-      let theirs = made_by_client p.geometry.clients v.others others_low in
-      omega arith)))
+      ∙ (let mine = one_at v.client (f v.client v.made) p.geometry.clients own_low in
+      let theirs = given_by_client (λ (o : Other). f o.client o.made) p.geometry.clients v.others
+      others_low in
+      omega arith))
     where
       own : ℕ → ℕ
-      own c = when (v.client == c) (length v.made)
+      own c = when (v.client == c) (f v.client v.made)
 
       others : ℕ → ℕ
-      others c = total (λ (o : Other). when (o.client == c) (length o.made)) v.others
+      others c = total (λ (o : Other). when (o.client == c) (f o.client o.made)) v.others
 
   -- what is left of it
   pub left : over_entries room s.words size (λ k. 1) + v.takings
@@ -344,8 +347,33 @@ module _ {T : Type 0} (fits : T → Key → List ℕ → Type 0) (p : Plan T) (s
       let sum = over_slots taken_by_slot (λ k. 1) one_each in
       let taken = of_view (λ (u : View T). u.takings) (λ u none. none.3) in
       let paid = r.stamps.left in
-      let made = all_made in
+      let lists = total_range length (made_of (λ c l. length l) v) r.books
+      (made_in (λ c l. length l)) in
+      let made = all_made (λ c l. length l) in
       omega arith
+
+  -- which stands in one slot or was taken once
+  pub weighed : (h : Stamp → ℕ)
+      → over_entries room s.words size (λ k. h (stamp_at fits p s r k)) + taken_weigh h v.gone
+      ≡ list_weighs h v.client 0 v.made
+      + total (λ (o : Other). list_weighs h o.client 0 o.made) v.others
+  weighed h =
+      let sum = standing_weighs fits p s r h in
+      let taken = of_view (λ (u : View T). taken_weigh h u.gone)
+      (λ u none. ap (taken_weigh h) none.5) in
+      let paid = r.stamps.weighed h in
+      let lists = books_range h (made_of (λ c l. list_weighs h c 0 l) v) r.books 0
+      (λ i c b at is. made_in (λ c l. list_weighs h c 0 l) c b
+      (ap (slice_get r.books) (let same : c ≡ i = omega arith in same) ∙ at)) in
+      let made = all_made (λ c l. list_weighs h c 0 l) in
+      omega arith
+
+  -- what was taken is in the view's lists
+  pub taken : Each (λ (g : Gone). slice_get (list_by v g.stamp.client) g.stamp.number ≡ Some g.made)
+      v.gone
+  taken = each_map (λ (g : Gone). made_at r.books g.stamp ≡ Some g.made)
+      (λ (g : Gone). slice_get (list_by v g.stamp.client) g.stamp.number ≡ Some g.made)
+      (λ g is. listed_known g.stamp g.made is) v.gone (r.stamps.given id v at).each
 
   -- The hand.
 

@@ -4,9 +4,12 @@ use mathlib.Core.Logic.{dite}
 use native.Mathlib.Decide.{ℕ_discrete}
 use Rattle.std.specs.List.{range_with_len}
 use Rattle.std.proofs.lemmas.Bool.{eq-eqb}
+use Rattle.hcc_core.specs.declared.slot.Stamp.{Stamp}
 use Rattle.hcc_core.specs.Sums.{when, total}
 use Rattle.hcc_core.proofs.SumLemmas.{total-member}
+use Rattle.hcc_rule.specs.declared.view.Made.{Made}
 use Rattle.hcc_rule.specs.declared.view.Other.{Other}
+use Rattle.hcc_rule.specs.Rule.{Books, books_weigh, list_weighs}
 use Rattle.hcc_rule.specs.Views.{Each}
 use Rattle.hcc_rule.proofs.Parts.Clients.{total-nothing}
 
@@ -76,16 +79,28 @@ pub total_both : {A : Type 0} (f g : A → ℕ) (xs : List A)
 total_both f g [] = refl
 total_both f g (x ∷ xs) = let rest = total_both f g xs in omega arith
 
--- what others made, client by client, is what all of them made
-pub made_by_client : (n : ℕ) (os : List Other) → Each (λ (o : Other). o.client < n) os
-    → total (λ i. total (λ (o : Other). when (o.client == i) (length o.made)) os)
-    (range_with_len 0 n)
-    ≡ total (λ (o : Other). length o.made) os
-made_by_client n [] near = total-nothing (λ i. 0) (range_with_len 0 n) (λ i x at. refl)
-made_by_client n (o ∷ os) near =
-    total_both (λ i. when (o.client == i) (length o.made)) rest_of (range_with_len 0 n)
-    ∙ (let first = one_at o.client (length o.made) n near.0 in let rest =
-    made_by_client n os near.1 in omega arith)
+-- what others give, client by client, is what all of them give
+pub given_by_client : (f : Other → ℕ) (n : ℕ) (os : List Other)
+    → Each (λ (o : Other). o.client < n) os
+    → total (λ i. total (λ (o : Other). when (o.client == i) (f o)) os) (range_with_len 0 n)
+    ≡ total f os
+given_by_client f n [] near = total-nothing (λ i. 0) (range_with_len 0 n) (λ i x at. refl)
+given_by_client f n (o ∷ os) near =
+    total_both (λ i. when (o.client == i) (f o)) rest_of (range_with_len 0 n)
+    ∙ (let first = one_at o.client (f o) n near.0 in let rest =
+    given_by_client f n os near.1 in omega arith)
   where
     rest_of : ℕ → ℕ
-    rest_of i = total (λ (q : Other). when (q.client == i) (length q.made)) os
+    rest_of i = total (λ (q : Other). when (q.client == i) (f q)) os
+
+-- what the lists of all clients weigh is a sum over the clients' numbers
+pub books_range : (h : Stamp → ℕ) (g : ℕ → ℕ) (books : Books) (a : ℕ)
+    → ((i c : ℕ) (book : List Made) → slice_get books i ≡ Some book → c ≡ i + a
+    → list_weighs h c 0 book ≡ g c)
+    → books_weigh h a books ≡ total g (range_with_len a (length books))
+books_range h g [] a each = refl
+books_range h g (b ∷ bs) a each =
+    let first = each 0 a b refl (omega arith) in
+    let rest = books_range h g bs (a + 1)
+    (λ i c book at is. each (suc i) c book at (omega arith)) in
+    omega arith

@@ -18,7 +18,7 @@ use Rattle.hcc_core.proofs.SumLemmas.{total-member}
 use Rattle.hcc_rule.proofs.Parts.Clients.{total-only}
 use Rattle.hcc_rule.proofs.Basics.Lists.{read_at}
 use Rattle.hcc_rule.proofs.LastSeat.ClosingClients.{unseated}
-use Rattle.hcc_rule.proofs.LastSeat.ClosingSlots.{settled, kept, references, uses, clear, strays, left, places, hand, within_capacity}
+use Rattle.hcc_rule.proofs.LastSeat.ClosingSlots.{settled, kept, references, uses, clear, strays, left, weighed, taken, places, hand, within_capacity}
 use Rattle.hcc_rule.proofs.Limits.MadeEntries.{stamp_at, apart}
 use Rattle.hcc_rule.proofs.Parts.SlotSteps.{Shard}
 use Rattle.hcc_rule.proofs.Seats.Fronts.{known_at, named_all}
@@ -85,6 +85,9 @@ module _ {T : Type 0} (fits : T → Key → List ℕ → Type 0) (p : Plan T) wh
     clear = clear fits p s r id v at seated back;
     strays = strays fits p s r id v at seated back;
     left = left fits p s r id v at seated back;
+    weighed = weighed fits p s r id v at seated back;
+    counted = (r.stamps.given id v at).count;
+    taken = taken fits p s r id v at seated back;
     places = places fits p s r id v at seated back;
     hand = hand fits p s r id v at seated back;
   }
