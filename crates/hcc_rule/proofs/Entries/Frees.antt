@@ -1,5 +1,5 @@
 -- The exchange to construction: an entry with no reference but the client's last one is taken.
-use Rattle.std.proofs.Common.{◌++◌, ◌≡◌, ℕ, ◌+◌, ◌^◌, ◌<◌, ◌≤◌, ◌≢◌, ◌==◌, Bool, true, false, cond, List, [], ◌∷◌, Option, Some, None, IfSome, IsSomeAnd, Ok, slice_get, slice_index, slice_set, sym, refl, ap, ◌∙◌, arith, ◌-◌, inl, length}
+use Rattle.std.proofs.Common.{◌++◌, ◌≡◌, ℕ, ◌+◌, ◌^◌, ◌<◌, ◌≤◌, ◌≢◌, ◌==◌, Bool, true, false, cond, List, [], ◌∷◌, Option, Some, None, IfSome, IsSomeAnd, Ok, slice_get, slice_index, slice_set, sym, refl, ap, ◌∙◌, arith, ◌-◌, inl}
 use Rattle.std.specs.List.{find}
 use Rattle.std.proofs.lemmas.Bool.{eqb-true, eq-eqb, false≢true}
 use Rattle.std.proofs.lemmas.List.{length-append}

@@ -28,7 +28,7 @@ use Rattle.hcc_rule.specs.ToldOwners.{room_for, MayShow, first_records, shown_en
 use Rattle.hcc_rule.specs.Views.{reference_of, is_on, is_called, times_called, load_of, is_seated, Each}
 use Rattle.hcc_rule.specs.Records.{record_in}
 use Rattle.hcc_rule.specs.Words.{field_at, stamp_word, code_of}
-use Rattle.hcc_rule.specs.Rule.{list_weighs, entry_by, entry_in, IsStored, IsRecorded, IsHolding, IsRight, Holds, AreApart, IsAbove, IsTagged, book_of, made_at}
+use Rattle.hcc_rule.specs.Rule.{entry_by, entry_in, IsStored, IsRecorded, IsHolding, IsRight, Holds, AreApart, IsAbove, IsTagged, book_of, made_at}
 use Rattle.hcc_rule.proofs.Basics.Lists.{read_at, each_map, each_append}
 use Rattle.hcc_rule.proofs.Parts.Codes.{when_le}
 use Rattle.hcc_rule.proofs.Basics.Findings.{none_passes}

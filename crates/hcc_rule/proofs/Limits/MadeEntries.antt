@@ -20,7 +20,7 @@ use Rattle.hcc_rule.specs.declared.view.Record.{Record}
 use Rattle.hcc_rule.specs.declared.view.View.{View}
 use Rattle.hcc_rule.specs.declared.layout.TheConstants.{CHARGE, KEY0, KEY1}
 use Rattle.hcc_rule.specs.Closing.{data_at, key_at, list_by}
-use Rattle.hcc_rule.specs.Laws.{has_entry, IsMade, AreMade, IsOfMade, AreOfMade, IsListed}
+use Rattle.hcc_rule.specs.Laws.{has_entry, IsMade, IsOfMade, AreOfMade, IsListed}
 use Rattle.hcc_rule.specs.Rule.{entry_in, IsNamed, IsRecorded, IsSeated, IsStored, Holds, made_at}
 use Rattle.hcc_rule.specs.Views.{is_seated, names}
 use Rattle.hcc_rule.specs.Words.{entry_of, key_of, made_words}

@@ -1,6 +1,5 @@
 -- What was shown stands in one slot, or one view took it, once.
 use Rattle.std.proofs.Common.{◌≡◌, ◌≢◌, ℕ, zero, suc, ◌+◌, ◌<◌, ◌==◌, ◌&&◌, Bool, true, false, List, [], ◌∷◌, Option, Some, None, slice_get, sym, refl, ap, ◌∙◌, arith, ne_eqb}
-use Rattle.std.specs.Option.{unwrap_or}
 use Rattle.std.proofs.lemmas.Bool.{eq-eqb}
 use Rattle.hcc_word.specs.Word.{is_shareable}
 use Rattle.hcc_core.specs.declared.slot.Slot.{Slot}
@@ -18,7 +17,7 @@ use Rattle.hcc_rule.specs.declared.view.Record.{Record}
 use Rattle.hcc_rule.specs.declared.view.View.{View}
 use Rattle.hcc_rule.specs.Closing.{over_entries}
 use Rattle.hcc_rule.specs.Laws.{has_entry, one_of, times_taken, AreMade, IsListed, HasTaken, HoldsNothingTaken}
-use Rattle.hcc_rule.specs.Rule.{Books, books_weigh, entry_in, list_weighs, made_at, slot_weighs, taken_weigh, IsRecorded, Holds}
+use Rattle.hcc_rule.specs.Rule.{Books, books_weigh, entry_in, list_weighs, made_at, slot_weighs, IsRecorded, Holds}
 use Rattle.hcc_rule.proofs.Basics.Lists.{each_map}
 use Rattle.hcc_rule.proofs.LastSeat.ClosingSums.{total_range}
 use Rattle.hcc_rule.proofs.Limits.MadeEntries.{apart, listed_by, shown_by, slot_made, stamp_at, stamp_told}
