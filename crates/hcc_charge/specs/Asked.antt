@@ -9,6 +9,7 @@ use Rattle.hcc_rule.specs.declared.view.View.{View}
 use Rattle.hcc_rule.specs.Callers.{capacity_of, clients_of, is_strict, plan_of, slots_of, IsEvent}
 use Rattle.hcc_rule.specs.Addresses.{address_of_ledger}
 use Rattle.hcc_rule.specs.Events.{charge_done, enter_done, usage_done}
+use Rattle.hcc_rule.specs.Gone.{Takes}
 use Rattle.hcc_rule.specs.Rule.{setup_of}
 use Rattle.hcc_rule.specs.Seats.{SeatOf, Makes, MakesSome, view}
 use Rattle.hcc_rule.specs.Views.{charge_made}
@@ -34,6 +35,7 @@ added strict charge = if strict then charge else 0
 pub record EvictsNothing {T : Type 0} (v w : View T) : Type 0 where
   pub turns : w.turns ≡ v.turns
   pub takings : w.takings ≡ v.takings
+  pub gone : w.gone ≡ v.gone
   pub opened : w.open_places ≡ v.open_places
 
 module _ {T A : Type 0} (table : RuleTable T A) where
@@ -97,6 +99,8 @@ module _ {T A : Type 0} (fits : T → Key → List ℕ → Type 0) (table : Rule
           (asked (is_strict table) (capacity_of table) charge (is_full table taken) used) swept
       pub turns : (view d).turns ≡ (view a).turns + swept.turns
       pub takings : (view d).takings ≡ (view a).takings + swept.slots
+      -- the entries that were taken are those that it freed, of that charge
+      pub gone : Takes swept.slots swept.charge (view a) (view d)
       pub opened : (view d).open_places ≡ (view a).open_places + when (is_full table taken) 1
       pub tallied : Tallied swept before after
       pub lost : Lost swept.lost swept.lost effort counted

@@ -8,6 +8,7 @@ use Rattle.hcc_rule.specs.declared.table.RuleTable.{RuleTable}
 use Rattle.hcc_rule.specs.declared.view.View.{View}
 use Rattle.hcc_rule.specs.Callers.{room_of, slots_of}
 use Rattle.hcc_rule.specs.Addresses.{address_of_ledger, address_of_meta}
+use Rattle.hcc_rule.specs.Gone.{Takes}
 use Rattle.hcc_rule.specs.Seats.{SeatOf, Makes, view}
 use Rattle.hcc_rule.specs.ToldLedgers.{after_turn}
 use Rattle.hcc_table.specs.declared.visiting.ClockVisit.{ClockVisit}
@@ -134,6 +135,9 @@ module _ {T : Type 0} where
       };
       written = w.written;
       takings = v.takings + slots;
+      gone = w.gone;
       turns = v.turns + turns;
     }
     pub dead : Grows v.work.dead w.work.dead
+    -- which entries these were
+    pub taken : Takes slots charge v w

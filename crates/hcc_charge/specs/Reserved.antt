@@ -5,6 +5,7 @@ use Rattle.hcc_core.specs.declared.client.Place.{Place}
 use Rattle.hcc_core.specs.declared.client.Place.TheVariants as places
 use Rattle.hcc_core.specs.Sums.{when}
 use Rattle.hcc_rule.specs.declared.view.View.{View}
+use Rattle.hcc_rule.specs.Gone.{Takes}
 use Rattle.hcc_table.specs.Searched.{Grows}
 use Rattle.hcc_charge.specs.declared.reserving.Reservation.{Reservation}
 use Rattle.hcc_charge.specs.declared.reserving.Reservation.TheVariants.{Reserved, NoPlace}
@@ -113,12 +114,15 @@ module _ {T : Type 0} where
       };
       written = w.written;
       takings = v.takings + shortage.swept.slots;
+      gone = w.gone;
       open_places = v.open_places + when shortage.full 1;
       turns = v.turns + shortage.swept.turns;
       seen = v.seen ++ loaded strict shortage.used;
       tight = v.tight ++ short_of (needed_by strict capacity shortage.used charge) charge;
     }
     pub dead : Grows v.work.dead w.work.dead
+    -- which entries its eviction freed
+    pub taken : Takes shortage.swept.slots shortage.swept.charge v w
 
   -- The view after a reservation, by its answer.
   abbrev pub ReservedBy : (slots capacity : ℕ) → (strict : Bool) → (charge : ℕ)

@@ -3,6 +3,7 @@ use Rattle.std.specs.Prelude.{◌≡◌, ℕ, ◌+◌, ◌≤◌, ◌++◌, List
 use Rattle.hcc_core.specs.declared.client.Owned.TheVariants as owned
 use Rattle.hcc_rule.specs.declared.key.Key.{Key}
 use Rattle.hcc_rule.specs.declared.view.View.{View}
+use Rattle.hcc_rule.specs.Gone.{Takes}
 use Rattle.hcc_table.specs.Searched.{Grows, times_met}
 
 module _ {T : Type 0} where
@@ -27,11 +28,14 @@ module _ {T : Type 0} where
       written = w.written;
       hidden = v.hidden ++ keys;
       takings = v.takings + slots;
+      gone = w.gone;
       met = w.met;
       glimpse = w.glimpse;
     }
     pub dead : Grows v.work.dead w.work.dead
     pub met : (more : List Key) × (w.met ≡ v.met ++ more)
+    -- which entries it freed
+    pub taken : Takes slots charge v w
 
   -- So many entries of one key, and it holds what it held. It freed no more than it met of the key.
   pub record IsErased (key : Key) (hidden slots charge : ℕ) (v w : View T) : Type 0 where

@@ -1,5 +1,5 @@
 -- What a client has once it freed an entry.
-use Rattle.std.specs.Prelude.{◌≡◌, ℕ, ◌+◌, ◌-◌, ◌*◌, ◌%◌, ◌^◌, ◌≤◌, ◌==◌, ◌&&◌, ◌||◌, not, Bool, true, false, List, [], Option, IfSome, IfNone, length, slice_index, if◌then◌else◌}
+use Rattle.std.specs.Prelude.{◌≡◌, ℕ, ◌+◌, ◌-◌, ◌*◌, ◌%◌, ◌^◌, ◌≤◌, ◌==◌, ◌&&◌, ◌||◌, not, Bool, true, false, List, [], ◌∷◌, ◌++◌, Option, IfSome, IfNone, length, slice_index, if◌then◌else◌}
 use Rattle.hcc_word.specs.declared.layout.TheConstants.{ONE_RELEASE}
 use Rattle.hcc_word.specs.Word.{is_shareable, is_visible, refs_of}
 use Rattle.hcc_core.specs.declared.client.Owned.TheVariants as owned
@@ -77,6 +77,7 @@ module _ {T : Type 0} where
       records = w.records;
       takings = v.takings + 1;
       warm = v.warm + when (is_warm word) 1;
+      gone = v.gone ++ record { stamp = stamp; made = made } ∷ [];
     }
 
   -- The same, of the entry that was in this slot: the exchange that found its word took it, and
