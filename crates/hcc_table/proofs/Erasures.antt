@@ -15,6 +15,7 @@ use Rattle.hcc_core.specs.declared.slot.Entry.{Entry}
 use Rattle.hcc_rule.specs.Views.{is_called}
 use Rattle.hcc_rule.specs.Records.{record_in}
 use Rattle.hcc_rule.specs.Words.{key_of}
+use Rattle.hcc_rule.specs.Gone.{Takes}
 use Rattle.hcc_rule.specs.Rule.{IsRight}
 use Rattle.hcc_table.specs.Erased.{Erases, IsAtRest, IsErased}
 use Rattle.hcc_table.specs.Freed.{IsFreed}
@@ -24,6 +25,7 @@ use Rattle.hcc_table.proofs.Reaches.{joined_in}
 use Rattle.std.proofs.lemmas.Bool.{eq-eqb}
 use Rattle.std.proofs.lemmas.List.{append-nil}
 use Rattle.hcc_rule.proofs.Basics.Lists.{each_map}
+use Rattle.hcc_rule.proofs.Gone.{takes_alike, takes_more, takes_none, takes_one}
 use Rattle.hcc_table.proofs.Probes.{found_held, dropped_last}
 use Rattle.hcc_core.proofs.SumLemmas.{total-append}
 
@@ -47,11 +49,13 @@ module _ {T : Type 0} where
       written = sym (ap (λ (z : View T). z.written) s.same) k;
       hidden = no_more v.hidden k;
       takings = no_added v.takings k;
+      gone = sym (ap (λ (z : View T). z.gone) s.same) k;
       met = w.met;
       glimpse = w.glimpse;
     });
     dead = s.dead;
     met = s.met;
+    taken = takes_none (ap (λ (z : View T). z.gone) s.same);
   }
 
   -- The client is at rest afterwards.
@@ -79,6 +83,7 @@ module _ {T : Type 0} where
           written = w.written;
           hidden = z.hidden ++ more;
           takings = z.takings + other;
+          gone = w.gone;
           met = w.met;
           glimpse = w.glimpse;
         }) a.same ∙ (λ k. record u {
@@ -94,6 +99,7 @@ module _ {T : Type 0} where
           written = w.written;
           hidden = append_assoc u.hidden keys more k;
           takings = sums u.takings slots other k;
+          gone = w.gone;
           met = w.met;
           glimpse = w.glimpse;
         }));
@@ -103,6 +109,7 @@ module _ {T : Type 0} where
       b.met.1
           ∙ (ap (λ z. z ++ b.met.0) a.met.1 ∙ append_assoc u.met a.met.0 b.met.0),
     );
+    taken = takes_more a.taken b.taken;
   }
     where
       sums : (a b c : ℕ) → a + b + c ≡ a + (b + c)
@@ -126,6 +133,7 @@ module _ {T : Type 0} where
       written = w.written;
       hidden = z.hidden ++ keys;
       takings = z.takings + slots;
+      gone = w.gone;
       met = w.met;
       glimpse = w.glimpse;
     }) a.same;
@@ -135,6 +143,7 @@ module _ {T : Type 0} where
       b.met.1
           ∙ (ap (λ z. z ++ b.met.0) a.met.1 ∙ append_assoc u.met a.met.0 b.met.0),
     );
+    taken = takes_alike b.taken (sym (ap (λ (z : View T). z.gone) a.same)) refl;
   }
 
   pub erases_last : (keys : List Key) (slots charge : ℕ) (u v w : View T)
@@ -160,6 +169,7 @@ module _ {T : Type 0} where
           written = sym (ap (λ (z : View T). z.written) b.same) k;
           hidden = u.hidden ++ keys;
           takings = u.takings + slots;
+          gone = sym (ap (λ (z : View T). z.gone) b.same) k;
           met = w.met;
           glimpse = w.glimpse;
         }));
@@ -169,7 +179,15 @@ module _ {T : Type 0} where
       b.met.1
           ∙ (ap (λ z. z ++ b.met.0) a.met.1 ∙ append_assoc u.met a.met.0 b.met.0),
     );
+    taken = takes_alike a.taken refl (ap (λ (z : View T). z.gone) b.same);
   }
+
+  -- That an entry was freed tells which one was taken.
+  pub takes_one_freed : {fits : T → Key → List ℕ → Type 0} {room word charge : ℕ} {last : Option ℕ}
+      {v w : View T} → IsFreed fits room word last charge v w → Takes 1 charge v w
+  takes_one_freed {v = v} {w = w} f =
+      subst (λ c. Takes 1 c v w) (sym f.charged)
+      (takes_one (record { stamp = f.stamp; made = f.made }) (ap (λ (z : View T). z.gone) f.same))
 
   -- An entry that isn't warm was freed.
   pub erases_freed : (fits : T → Key → List ℕ → Type 0) (room word charge : ℕ) (last : Option ℕ)
@@ -190,11 +208,13 @@ module _ {T : Type 0} where
       hidden = no_more v.hidden k;
       takings = v.takings + 1;
       warm = unwarmed k;
+      gone = sym (ap (λ (z : View T). z.gone) f.same) k;
       met = sym (ap (λ (z : View T). z.met) f.same) k;
       glimpse = sym (ap (λ (z : View T). z.glimpse) f.same) k;
     });
     dead = f.dead;
     met = ([], ap (λ (z : View T). z.met) f.same ∙ no_more v.met);
+    taken = takes_one_freed f;
   }
     where
       unwarmed : v.warm + when (is_warm word) 1 ≡ v.warm
@@ -229,6 +249,7 @@ module _ {T : Type 0} where
         written = sym (ap (λ (z : View T). z.written) same) k;
         hidden = keys (is_visible word) k;
         takings = no_added v.takings k;
+        gone = sym (ap (λ (z : View T). z.gone) same) k;
         met = sym (ap (λ (z : View T). z.met) same) k;
         glimpse = sym (ap (λ (z : View T). z.glimpse) same) k;
       });
@@ -236,6 +257,7 @@ module _ {T : Type 0} where
           (grows_joined v.work.dead
           (option_map (λ (e : Entry). e.stamp) (entry_called name v.records)) stamp h);
       met = ([], ap (λ (z : View T). z.met) same ∙ no_more v.met);
+      taken = takes_none (ap (λ (z : View T). z.gone) same);
     },
     rw (same, at) (joined_in r.entry.stamp v.work.dead),
     ap (λ (z : View T). z.records) same,

@@ -172,6 +172,7 @@ module _ {T : Type 0} (fits : T → Key → List ℕ → Type 0) (room : ℕ) (v
         records = w.records;
         takings = z.takings + 1;
         warm = z.warm + when (is_warm word) 1;
+        gone = z.gone ++ record { stamp = h.stamp; made = h.made } ∷ [];
       }
 
   -- So it is where freeing was due: the entry of the word that was left.
