@@ -1,5 +1,6 @@
 -- What a reservation found, and what it evicted for that.
-use Rattle.std.proofs.Common.{◌≡◌, ℕ, ◌+◌, ◌-◌, ◌≤◌, Bool, true, false, List, length, sym, subst, ap, ◌∙◌, arith}
+use Rattle.std.proofs.Common.{◌≡◌, ℕ, ◌+◌, ◌-◌, ◌≤◌, Bool, true, false, List, ◌++◌, length, sym, subst, ap, ◌∙◌, arith}
+use Rattle.std.proofs.lemmas.List.{append-nil, nil_from_length}
 use Rattle.hcc_core.specs.Sums.{when}
 use Rattle.hcc_core.specs.World.{charged_to, occupied_by, standing_of}
 use Rattle.hcc_rule.specs.declared.key.Key.{Key}
@@ -10,9 +11,11 @@ use Rattle.hcc_rule.specs.Between.{IsBetweenCalls}
 use Rattle.hcc_rule.specs.Callers.{capacity_of, clients_of, is_strict, plan_of, slots_of, IsEvent}
 use Rattle.hcc_rule.specs.Addresses.{address_of_ledger}
 use Rattle.hcc_rule.specs.Events.{enter_done}
+use Rattle.hcc_rule.specs.Gone.{Takes}
 use Rattle.hcc_rule.specs.Rule.{setup_of}
 use Rattle.hcc_rule.specs.Seats.{SeatOf, Makes, view}
 use Rattle.hcc_rule.specs.Views.{charge_made}
+use Rattle.hcc_rule.proofs.Gone.{takes_alike}
 use Rattle.hcc_table.specs.declared.efforts.Effort.{Effort}
 use Rattle.hcc_table.specs.Efforts.{Lost}
 use Rattle.hcc_table.specs.Seeking.{GoesOnBy, is_booking}
@@ -26,10 +29,11 @@ use Rattle.hcc_charge.specs.Swept.{Tallied}
 module _ {T : Type 0} where
   -- Nothing is evicted where a view counts what it counted,
   pub keeps_by : (x w v : View T) → w ≡ x → x.turns ≡ v.turns → x.takings ≡ v.takings
-      → x.open_places ≡ v.open_places → EvictsNothing v w
-  keeps_by x w v same turns takings opened = record {
+      → x.gone ≡ v.gone → x.open_places ≡ v.open_places → EvictsNothing v w
+  keeps_by x w v same turns takings gone opened = record {
     turns = ap (λ (z : View T). z.turns) same ∙ turns;
     takings = ap (λ (z : View T). z.takings) same ∙ takings;
+    gone = ap (λ (z : View T). z.gone) same ∙ gone;
     opened = ap (λ (z : View T). z.open_places) same ∙ opened;
   }
 
@@ -38,8 +42,16 @@ module _ {T : Type 0} where
   keeps_then u v w a b = record {
     turns = b.turns ∙ a.turns;
     takings = b.takings ∙ a.takings;
+    gone = b.gone ∙ a.gone;
     opened = b.opened ∙ a.opened;
   }
+
+  -- Where no entry was taken the list of those that were is what it was.
+  pub none_taken : {slots charge : ℕ} {v w : View T} → slots ≡ 0 → Takes slots charge v w
+      → w.gone ≡ v.gone
+  none_taken {v = v} none took =
+      took.gone ∙ (ap (λ l. v.gone ++ l) (nil_from_length took.these (took.count ∙ none))
+      ∙ append-nil v.gone)
 
   -- The steps of the turns that a view counts are those of the turns that were made.
   pub between_is : (slots turns taken : ℕ) (v w : View T) → w.turns ≡ v.turns + turns
@@ -118,6 +130,9 @@ module _ {T A : Type 0} (fits : T → Key → List ℕ → Type 0) (table : Rule
         takings =
             last.takings ∙ (ap (λ (z : View T). z.takings) sweeps.same
             ∙ ap (λ n. n + swept.slots) (first.takings ∙ ap (λ (z : View T). z.takings) opens));
+        gone =
+            takes_alike sweeps.taken
+            (sym (first.gone ∙ ap (λ (z : View T). z.gone) opens)) last.gone;
         opened =
             last.opened ∙ (ap (λ (z : View T). z.open_places) sweeps.same
             ∙ (first.opened ∙ (ap (λ (z : View T). z.open_places) opens

@@ -12,6 +12,7 @@ use Rattle.hcc_core.specs.Sums.{when}
 use Rattle.hcc_rule.specs.declared.view.View.{View}
 use Rattle.hcc_rule.specs.Between.{IsBetweenCalls}
 use Rattle.hcc_rule.specs.ToldLedgers.{after_charge, after_quit, after_usage, needed_of}
+use Rattle.hcc_rule.proofs.Gone.{takes_alike}
 use Rattle.hcc_charge.specs.declared.swept.Swept.{Swept}
 use Rattle.hcc_charge.specs.Evicted.{IsSweptFor, Sweeps}
 use Rattle.hcc_charge.specs.Reserved.{Reserves, ask_of, asked, entered, has_cause, loaded, needed_by, presses, settled_as, short_of, still_needed, surplus}
@@ -232,6 +233,7 @@ module _ {T : Type 0} where
               };
               written = b.written;
               takings = z.takings + swept.slots;
+              gone = b.gone;
               turns = z.turns + swept.turns;
             }) ask.same ∙ (λ k. record v {
               work = record v.work {
@@ -247,6 +249,7 @@ module _ {T : Type 0} where
               };
               written = sym (ap (λ (z : View T). z.written) left) k;
               takings = v.takings + swept.slots;
+              gone = sym (ap (λ (z : View T). z.gone) left) k;
               open_places = v.open_places + when ask.full 1;
               turns = v.turns + swept.turns;
               seen = v.seen ++ loaded strict ask.used;
@@ -257,6 +260,9 @@ module _ {T : Type 0} where
             (s.dead stamp
             (subst (λ d. is_in stamp d ≡ true)
             (sym (ap (λ (z : View T). z.work.dead) ask.same)) h));
+        taken =
+            takes_alike s.taken (sym (ap (λ (z : View T). z.gone) ask.same))
+            (ap (λ (z : View T). z.gone) left);
       }
 
     -- Nothing was freed, and the place was given back.

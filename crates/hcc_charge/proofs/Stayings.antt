@@ -37,6 +37,7 @@ use Rattle.hcc_charge.specs.declared.reserving.Reservation.TheVariants.{Reserved
 use Rattle.hcc_charge.specs.declared.tally.Tally.{Tally}
 use Rattle.hcc_charge.specs.Asked.{is_full, lacked, EvictsAsAsked, EvictsBy, EvictsNothing, FindsBy}
 use Rattle.hcc_charge.specs.Reserved.{asked, needed_by, still_needed, surplus}
+use Rattle.hcc_charge.proofs.Askings.{none_taken}
 
 -- Nothing is asked for where no turn was made.
 asks_none : (turns ask : ℕ) → turns ≡ 0 → nat_lt 0 turns ≡ nat_lt 0 ask → ask ≡ 0
@@ -105,6 +106,7 @@ module _ {T A : Type 0} (fits : T → Key → List ℕ → Type 0) (table : Rule
           let all = e.takings in
           let none = ap (λ s. s.slots) (e.evicts.none asks_nothing).0 in
           omega arith;
+      gone = none_taken (ap (λ s. s.slots) (e.evicts.none asks_nothing).0) e.gone;
       opened =
           e.opened ∙ (let none = ap (λ f. when f 1) turned_found.0 in omega arith);
     }
@@ -151,6 +153,7 @@ unturned fits table charge (Err TooLarge) before after effort counted a d h same
   record {
     turns = ap (λ z. (view z).turns) h.2;
     takings = ap (λ z. (view z).takings) h.2;
+    gone = ap (λ z. (view z).gone) h.2;
     opened = ap (λ z. (view z).open_places) h.2;
   },
 )

@@ -9,13 +9,14 @@ use Rattle.hcc_rule.specs.Seats.{SeatOf, view}
 use Rattle.hcc_rule.specs.Looked.{after_look, found_dead}
 use Rattle.hcc_rule.specs.ToldLedgers.{after_turn}
 use Rattle.hcc_rule.specs.ToldOwners.{is_warm}
+use Rattle.hcc_rule.proofs.Gone.{takes_more, takes_none}
 use Rattle.hcc_table.specs.declared.visiting.ClockVisit.{ClockVisit}
 use Rattle.hcc_table.specs.declared.visiting.ClockVisit.TheVariants as visits
 use Rattle.hcc_table.specs.Erased.{IsAtRest}
 use Rattle.hcc_table.specs.Freed.{IsFreed}
 use Rattle.hcc_table.specs.Searched.{Grows, Sought}
 use Rattle.hcc_table.specs.Visited.{Visited}
-use Rattle.hcc_table.proofs.Erasures.{charge_small}
+use Rattle.hcc_table.proofs.Erasures.{charge_small, takes_one_freed}
 use Rattle.hcc_table.proofs.Searches.{grows_joined}
 use Rattle.hcc_charge.specs.declared.swept.Swept.{Swept}
 use Rattle.hcc_charge.specs.Evicted.{Sweeps}
@@ -60,9 +61,11 @@ module _ {T : Type 0} where
       };
       written = sym (ap (λ (z : View T). z.written) same) k;
       takings = no_added v.takings k;
+      gone = sym (ap (λ (z : View T). z.gone) same) k;
       turns = no_added v.turns k;
     });
     dead = dead;
+    taken = takes_none (ap (λ (z : View T). z.gone) same);
   }
 
   pub sweeps_none : (v : View T) → IsAtRest v → Sweeps 0 0 0 v v
@@ -110,9 +113,11 @@ module _ {T : Type 0} where
       written = sym (ap (λ (z : View T). z.written) f.same) k;
       takings = v.takings + 1;
       warm = unwarmed k;
+      gone = sym (ap (λ (z : View T). z.gone) f.same) k;
       turns = no_added v.turns k;
     });
     dead = f.dead;
+    taken = takes_one_freed f;
   }
     where
       unwarmed : v.warm + when (is_warm word) 1 ≡ v.warm
@@ -173,9 +178,11 @@ module _ {T : Type 0} where
       };
       written = sym (ap (λ (z : View T). z.written) same) k;
       takings = no_added v.takings k;
+      gone = sym (ap (λ (z : View T). z.gone) same) k;
       turns = v.turns + 1;
     });
     dead = λ stamp h. rw same h;
+    taken = takes_none (ap (λ (z : View T). z.gone) same);
   }
 
   -- The client is at rest afterwards.
@@ -209,6 +216,7 @@ module _ {T : Type 0} where
           };
           written = w.written;
           takings = z.takings + other;
+          gone = w.gone;
           turns = z.turns + more;
         }) a.same ∙ (λ k. record u {
           work = record u.work {
@@ -221,9 +229,11 @@ module _ {T : Type 0} where
           };
           written = w.written;
           takings = sums u.takings slots other k;
+          gone = w.gone;
           turns = sums u.turns turns more k;
         }));
     dead = λ stamp h. b.dead stamp (a.dead stamp h);
+    taken = takes_more a.taken b.taken;
   }
 
 -- What more visits can do.

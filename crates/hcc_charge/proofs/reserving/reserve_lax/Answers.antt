@@ -60,7 +60,7 @@ evicted g c =
     (asked_lax c.usage-used.result c.args.charge c.enter-full.result c.capacity.ensures
     c.ask.ensures.value c.at_least_one-least.ensures.value)
     opens.enters.2 opens.view c.usage-used.ensures.step opens.enters.3 c.usage-used.ensures.event
-    (keeps_by _ _ (view c.enter-full.new.seat) c.usage-used.ensures.view refl refl refl)
+    (keeps_by _ _ (view c.enter-full.new.seat) c.usage-used.ensures.view refl refl refl refl)
     told.evicts told.swept told.view told.tally told.effort c.requires.idle opens.enters.4
     c.usage-used.ensures.alone
 
@@ -71,12 +71,12 @@ idle g c =
     keeps_then (view c.evict_for-swept.new.seat) (view c.give_slots.new.seat)
     (view c.give_charge.new.seat)
     (keeps_by _ (view c.give_slots.new.seat) (view c.evict_for-swept.new.seat)
-    c.give_slots.ensures.view refl refl refl)
+    c.give_slots.ensures.view refl refl refl refl)
     (keeps_then (view c.give_slots.new.seat) (view c.charge.new.seat) (view c.give_charge.new.seat)
     (keeps_by _ (view c.charge.new.seat) (view c.give_slots.new.seat) c.charge.ensures.view refl
-    refl refl)
+    refl refl refl)
     (keeps_by _ (view c.give_charge.new.seat) (view c.charge.new.seat) c.give_charge.ensures.view
-    refl refl refl))
+    refl refl refl refl))
 
 -- It only keeps what was reserved, and gives back what was freed.
 behind : (g : given.Over) (c : After-give_charge g)
@@ -96,7 +96,7 @@ behind g c =
 pub returns-then-swept-eq0-clause-evicts : goal.returns-then-swept-eq0-clause-evicts
 returns-then-swept-eq0-clause-evicts g c = (
   evicted g (goal.at.returns-then-swept-eq0-clause-evicts g c).After-evict_for-swept c.quit.new.seat
-      (keeps_by _ _ (view c.evict_for-swept.new.seat) c.quit.ensures.view refl refl refl)
+      (keeps_by _ _ (view c.evict_for-swept.new.seat) c.quit.ensures.view refl refl refl refl)
       (goes_event c.args.table.now is_booking (quit_done (view c.evict_for-swept.new.seat))
       c.evict_for-swept.new.seat c.quit.new.seat c.quit.ensures.event refl),
   sym c.enter-full.ensures.enters.1 ∙ c.if-full.true,

@@ -86,7 +86,7 @@ evicted g c =
     c.needed-needed.ensures.value c.at_least_one.ensures.value)
     opens.enters.2 opens.view c.charge-used.ensures.step opens.enters.3
     c.charge-used.ensures.event
-    (keeps_by _ _ (view c.enter-full.new.seat) c.charge-used.ensures.view refl refl refl)
+    (keeps_by _ _ (view c.enter-full.new.seat) c.charge-used.ensures.view refl refl refl refl)
     told.evicts told.swept told.view told.tally told.effort c.requires.idle opens.enters.4
     c.charge-used.ensures.alone
 
@@ -94,7 +94,7 @@ pub returns-then-swept-needed-clause-evicts : goal.returns-then-swept-needed-cla
 returns-then-swept-needed-clause-evicts g c = (
   evicted g (goal.at.returns-then-swept-needed-clause-evicts g c).After-evict_for-swept
       c.refuse.new.seat
-      (keeps_by _ _ (view c.evict_for-swept.new.seat) c.refuse.ensures.view refl refl refl)
+      (keeps_by _ _ (view c.evict_for-swept.new.seat) c.refuse.ensures.view refl refl refl refl)
       c.refuse.ensures.by,
   rw (lacked_strict c.args.table.now c.args.charge c.charge-used.result c.requires.strict)
       (rw (← c.capacity.ensures) (rw (← c.needed-needed.ensures.value) c.if-swept-needed.true)),
@@ -106,7 +106,7 @@ returns-then-swept-eq0-clause-evicts g c = (
   evicted g (goal.at.returns-then-swept-eq0-clause-evicts g c).After-evict_for-swept
       c.refuse-then-swept-eq0.new.seat
       (keeps_by _ _ (view c.evict_for-swept.new.seat) c.refuse-then-swept-eq0.ensures.view refl
-      refl refl) c.refuse-then-swept-eq0.ensures.by,
+      refl refl refl) c.refuse-then-swept-eq0.ensures.by,
   sym c.enter-full.ensures.enters.1 ∙ c.if-full.true,
   c.if-swept-eq0.true,
   needless,
@@ -125,7 +125,7 @@ returns-then-swept-eq0-clause-evicts g c = (
 pub returns-clause-evicts : goal.returns-clause-evicts
 returns-clause-evicts g c = (
   evicted g (goal.at.returns-clause-evicts g c).After-evict_for-swept c.settle.new.seat
-      (keeps_by _ _ (view c.evict_for-swept.new.seat) c.settle.ensures.view refl refl refl)
+      (keeps_by _ _ (view c.evict_for-swept.new.seat) c.settle.ensures.view refl refl refl refl)
       (settled_books c.args.table.now c.evict_for-swept.new.seat c.settle.new.seat
       c.settle.ensures.by),
   λ is. placed g c (c.enter-full.ensures.enters.1 ∙ is),
@@ -139,7 +139,7 @@ returns-clause-evicts g c = (
 pub returns-clause-steps : goal.returns-clause-steps
 returns-clause-steps g c =
     let e = evicted g (goal.at.returns-clause-steps g c).After-evict_for-swept c.settle.new.seat
-    (keeps_by _ _ (view c.evict_for-swept.new.seat) c.settle.ensures.view refl refl refl)
+    (keeps_by _ _ (view c.evict_for-swept.new.seat) c.settle.ensures.view refl refl refl refl)
     (settled_books c.args.table.now c.evict_for-swept.new.seat c.settle.new.seat
     c.settle.ensures.by) in
     rw (between_is (slots_of c.args.table.now) c.evict_for-swept.result.turns
