@@ -16,6 +16,8 @@ use Rattle.hcc_rule.specs.declared.steps.shows.Draft.{Draft}
 use Rattle.hcc_rule.specs.declared.view.View.{View}
 use Rattle.hcc_rule.specs.ToldOwners.{after_show, first_records, made_of, shown_entry}
 use Rattle.hcc_rule.specs.Records.{record_in}
+use Rattle.hcc_rule.specs.Gone.{Takes}
+use Rattle.hcc_rule.proofs.Gone.{takes_alike}
 use Rattle.hcc_table.specs.Inserted.{MayInsert, Meets, Tried}
 use Rattle.hcc_table.specs.Searched.{is_key}
 use Rattle.hcc_charge.specs.declared.reserving.Refused.{Refused}
@@ -99,6 +101,7 @@ module _ {T : Type 0} where
       };
       written = w.written;
       takings = v.takings + r.shortage.swept.slots;
+      gone = w.gone;
       open_places = v.open_places + when r.shortage.full 1;
       saw = no_added v.saw k;
       turns = v.turns + r.shortage.swept.turns;
@@ -108,6 +111,7 @@ module _ {T : Type 0} where
       glimpse = sym (ap (λ (z : View T). z.glimpse) r.same) k;
     });
     dead = r.dead;
+    taken = r.taken;
   }
 
   -- Nothing was reserved, and the entry stands alone.
@@ -134,6 +138,7 @@ module _ {T : Type 0} where
       };
       written = sym (ap (λ (z : View T). z.written) stands) k;
       takings = v.takings + r.shortage.swept.slots;
+      gone = sym (ap (λ (z : View T). z.gone) stands) k;
       open_places = v.open_places + when r.shortage.full 1;
       saw = no_added v.saw k;
       turns = v.turns + r.shortage.swept.turns;
@@ -146,6 +151,7 @@ module _ {T : Type 0} where
     }));
     dead = λ stamp h. subst (λ d. is_in stamp d ≡ true)
         (sym (ap (λ (z : View T). z.work.dead) stands)) (r.dead stamp h);
+    taken = takes_alike r.taken refl (ap (λ (z : View T). z.gone) stands);
   }
 
   module _ (slots capacity : ℕ) (strict : Bool) (charge : ℕ) (v a : View T)
@@ -188,6 +194,7 @@ module _ {T : Type 0} where
             written = sym (ap (λ (z : View T). z.written) t.same) k;
             made = v.made ++ made_of draft value ∷ [];
             takings = v.takings + r.shortage.swept.slots;
+            gone = sym (ap (λ (z : View T). z.gone) t.same) k;
             open_places = v.open_places + when r.shortage.full 1;
             saw = saw_is k;
             turns = v.turns + r.shortage.swept.turns;
@@ -197,6 +204,7 @@ module _ {T : Type 0} where
             glimpse = w.glimpse;
           }));
       dead = λ stamp h. t.dead stamp (r.dead stamp h);
+      taken = takes_alike r.taken refl (ap (λ (z : View T). z.gone) t.same);
     }
       where
         spent : charge - draft.charge ≡ 0
@@ -240,6 +248,7 @@ module _ {T : Type 0} where
         };
         written = w.written;
         takings = v.takings + r.shortage.swept.slots;
+        gone = w.gone;
         open_places = v.open_places + when r.shortage.full 1;
         saw = v.saw + u.tries;
         turns = v.turns + r.shortage.swept.turns;
@@ -271,6 +280,9 @@ module _ {T : Type 0} where
                 (sym (ap (λ (z : View T). z.written) u.tried.same)
                 ∙ sym (ap (λ (z : View T). z.written) left)) k;
             takings = v.takings + r.shortage.swept.slots;
+            gone =
+                (sym (ap (λ (z : View T). z.gone) u.tried.same)
+                ∙ sym (ap (λ (z : View T). z.gone) left)) k;
             open_places = v.open_places + when r.shortage.full 1;
             saw = (sym (ap (λ (z : View T). z.saw) left) ∙ saw_more) k;
             turns = v.turns + r.shortage.swept.turns;
@@ -286,6 +298,11 @@ module _ {T : Type 0} where
           subst (λ d. is_in stamp d ≡ true) (sym (ap (λ (z : View T). z.work.dead) left))
           (u.tried.dead stamp (r.dead stamp h))
 
+      pub took_same : Takes r.shortage.swept.slots r.shortage.swept.charge v w
+      took_same =
+          takes_alike r.taken refl
+          (ap (λ (z : View T). z.gone) left ∙ ap (λ (z : View T). z.gone) u.tried.same)
+
     -- All was given up.
     pub tries_dropped : (key : Key) (b w : View T) (u : IsUnplaced slots key a b)
         → w ≡ without_place 0 b
@@ -296,6 +313,7 @@ module _ {T : Type 0} where
       tries = u.tries;
       same = left_over key b w 0 u left;
       dead = dead_more key b w 0 u left;
+      taken = took_same key b w 0 u left;
     }
 
     -- The charge was kept, and is a standalone entry's.
@@ -324,6 +342,7 @@ module _ {T : Type 0} where
             };
             written = sym (ap (λ (z : View T). z.written) stands) k;
             takings = v.takings + r.shortage.swept.slots;
+            gone = sym (ap (λ (z : View T). z.gone) stands) k;
             open_places = v.open_places + when r.shortage.full 1;
             saw = v.saw + u.tries;
             turns = v.turns + r.shortage.swept.turns;
@@ -335,6 +354,8 @@ module _ {T : Type 0} where
       dead = λ stamp h. subst (λ d. is_in stamp d ≡ true)
           (sym (ap (λ (z : View T). z.work.dead) stands))
           (dead_more key b (without_place charge b) charge u refl stamp h);
+      taken = takes_alike (took_same key b (without_place charge b) charge u refl) refl
+          (ap (λ (z : View T). z.gone) stands);
     }
 
   module _ (slots capacity : ℕ) (strict : Bool) (draft : Draft) where

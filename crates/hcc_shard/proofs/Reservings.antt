@@ -193,7 +193,7 @@ module _ {T A : Type 0} (shard : Shard T A) (draft : Draft) where
         reserved = new.seat;
         counted = new.effort;
         evicts = evicts;
-        idle = record { turns = refl; takings = refl; opened = refl };
+        idle = record { turns = refl; takings = refl; gone = refl; opened = refl };
         rest = λ less. adds_none new.seat new.seat refl;
       };
       ends = refl;

@@ -14,6 +14,8 @@ use Rattle.hcc_rule.specs.Between.{IsBetweenCalls}
 use Rattle.hcc_rule.specs.ToldOwners.{is_warm}
 use Rattle.hcc_rule.specs.declared.view.Record.{Record}
 use Rattle.hcc_rule.specs.Views.{Each, is_called}
+use Rattle.hcc_rule.specs.Gone.{Takes}
+use Rattle.hcc_rule.proofs.Gone.{takes_alike, takes_none, takes_one}
 use Rattle.hcc_rule.specs.Words.{key_of}
 use Rattle.hcc_table.specs.Erased.{IsErased}
 use Rattle.hcc_table.specs.Freed.{IsFreed}
@@ -94,6 +96,9 @@ module _ {T : Type 0} where
               ∙ sym (ap (λ (z : View T). z.written) settles)) k;
           records = left k;
           takings = v.takings + 1;
+          gone =
+              (sym (ap (λ (z : View T). z.gone) f.same)
+              ∙ sym (ap (λ (z : View T). z.gone) settles)) k;
           warm = v.warm + when (is_warm word) 1;
           glimpse =
               (sym (ap (λ (z : View T). z.glimpse) f.same)
@@ -103,6 +108,11 @@ module _ {T : Type 0} where
         (sym (ap (λ (z : View T). z.work.dead) settles)) (f.dead stamp h);
     few = once (is_warm word);
     cold = λ kept. ap (λ b. when (b && nat_lt 0 (releases_of word)) 1) (cold kept);
+    taken = (
+      f.made.charge,
+      takes_one (record { stamp = f.stamp; made = f.made })
+          (ap (λ (z : View T). z.gone) settles ∙ ap (λ (z : View T). z.gone) f.same),
+    );
   }
     where
       once : (b : Bool) → when b 1 ≤ 1
@@ -120,6 +130,7 @@ module _ {T : Type 0} where
       written = sym (ap (λ (z : View T). z.written) s.same) k;
       records = left k;
       takings = no_added v.takings k;
+      gone = sym (ap (λ (z : View T). z.gone) s.same) k;
       warm = no_added v.warm k;
       met = met k;
       glimpse = w.glimpse;
@@ -127,7 +138,14 @@ module _ {T : Type 0} where
     dead = s.dead;
     few = omega arith;
     cold = λ kept. refl;
+    taken = (0, takes_none (ap (λ (z : View T). z.gone) s.same));
   }
+
+  -- What is settled was taken.
+  pub gone_settled : (key : Key) (hidden slots charge : ℕ) (v b w : View T)
+      → IsErased key hidden slots charge v b → w ≡ settled b → Takes slots charge v w
+  gone_settled key hidden slots charge v b w e settles =
+      takes_alike e.erases.taken refl (ap (λ (z : View T). z.gone) settles)
 
   -- Entries of a key were hidden, and some freed.
   pub erased_all : (key : Key) (hidden slots charge : ℕ) (v b w : View T) → IsBetweenCalls v.work
@@ -145,12 +163,14 @@ module _ {T : Type 0} where
           records = e.records k;
           hidden = v.hidden ++ replicate hidden key;
           takings = v.takings + slots;
+          gone = sym (ap (λ (z : View T). z.gone) settles) k;
           met = e.met.1 k;
           glimpse = sym (ap (λ (z : View T). z.glimpse) settles) k;
         }));
     dead = λ stamp h. subst (λ d. is_in stamp d ≡ true)
         (sym (ap (λ (z : View T). z.work.dead) settles)) (e.erases.dead stamp h);
     few = e.met.2;
+    taken = (charge, gone_settled key hidden slots charge v b w e settles);
   }
 
   -- So many were taken.

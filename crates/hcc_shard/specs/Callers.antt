@@ -9,6 +9,7 @@ use Rattle.hcc_rule.specs.declared.view.View.{View}
 use Rattle.hcc_rule.specs.Addresses.{address_of_displacement, address_of_ledger, address_of_meta}
 use Rattle.hcc_rule.specs.Callers as table
 use Rattle.hcc_rule.specs.Events.{occupancy_done}
+use Rattle.hcc_rule.specs.Gone.{Takes}
 use Rattle.hcc_rule.specs.Seats.{SeatOf, Makes, made, view}
 use Rattle.hcc_table.specs.declared.hiding.Erased.{Erased}
 use Rattle.hcc_table.specs.declared.pins.Pin.{Pin}
@@ -89,6 +90,8 @@ module _ {T A : Type 0} (fits : T → Key → List ℕ → Type 0) where
     pub mid : SeatOf T
     pub hides : HidesAll fits shard.table key IN_FLIGHT all old.effort new.effort old.seat mid
     pub taken : (view new.seat).takings ≡ (view old.seat).takings + all.slots
+    -- the entries that it took are those that it freed, of that charge
+    pub gone : Takes all.slots all.charge (view old.seat) (view new.seat)
     pub rest : Adds mid new.seat
     pub settles : GoesOnBy shard.table is_settling mid new.seat
     pub dead : (view new.seat).work.dead ≡ (view mid).work.dead

@@ -12,6 +12,7 @@ use Rattle.hcc_rule.specs.declared.steps.shows.Draft.{Draft}
 use Rattle.hcc_rule.specs.declared.view.Made.{Made}
 use Rattle.hcc_rule.specs.declared.view.Record.{Record}
 use Rattle.hcc_rule.specs.declared.view.View.{View}
+use Rattle.hcc_rule.specs.Gone.{Takes}
 use Rattle.hcc_rule.specs.Rule.{IsRight}
 use Rattle.hcc_rule.specs.ToldOwners.{first_records, made_of, shown_entry}
 use Rattle.hcc_table.specs.Inserted.{IsPlaced, Tried}
@@ -98,6 +99,7 @@ module _ {T : Type 0} where
       written = w.written;
       made = made;
       takings = v.takings + shortage.swept.slots;
+      gone = w.gone;
       open_places = v.open_places + when shortage.full 1;
       saw = v.saw + tries;
       turns = v.turns + shortage.swept.turns;
@@ -107,6 +109,8 @@ module _ {T : Type 0} where
       glimpse = w.glimpse;
     }
     pub dead : Grows v.work.dead w.work.dead
+    -- which entries its reservation evicted
+    pub taken : Takes shortage.swept.slots shortage.swept.charge v w
 
   module _ (slots capacity : ℕ) (strict : Bool) (draft : Draft) where
     -- The newest entry that the client made is this, on a slot of the shard, and it keeps a

@@ -7,6 +7,7 @@ use Rattle.hcc_core.specs.Sums.{when}
 use Rattle.hcc_rule.specs.declared.key.Key.{Key}
 use Rattle.hcc_rule.specs.declared.view.Atomic.{Atomic}
 use Rattle.hcc_rule.specs.declared.view.View.{View}
+use Rattle.hcc_rule.specs.Gone.{Takes}
 use Rattle.hcc_rule.specs.Seats.{SeatOf, Makes, atomic}
 use Rattle.hcc_rule.specs.Views.{is_called}
 use Rattle.hcc_table.specs.declared.efforts.Effort.{Effort}
@@ -38,12 +39,15 @@ module _ {T : Type 0} where
       records = dropped (is_called name) v.records;
       written = w.written;
       takings = v.takings + when freed 1;
+      gone = w.gone;
       warm = v.warm + warm;
       glimpse = w.glimpse;
     }
     pub dead : Grows v.work.dead w.work.dead
     pub few : warm ≤ when freed 1
     pub cold : erase ≡ false → warm ≡ 0
+    -- which entry was freed, if one was
+    pub taken : (charge : ℕ) × Takes (when freed 1) charge v w
 
   -- So many visible entries of the key were hidden, and the client holds what it held. It freed no
   -- more entries than it met of the key, none with uses left.
@@ -55,11 +59,14 @@ module _ {T : Type 0} where
       written = w.written;
       hidden = v.hidden ++ replicate hidden key;
       takings = v.takings + freed;
+      gone = w.gone;
       met = v.met ++ met;
       glimpse = w.glimpse;
     }
     pub dead : Grows v.work.dead w.work.dead
     pub few : freed ≤ times_met key met
+    -- which entries it freed
+    pub taken : (charge : ℕ) × Takes freed charge v w
 
   -- The first step of a release gave its reference back, as a use or not, and found the word of an
   -- entry with references. Where nobody held the entry then, and it was hidden or to be erased, the

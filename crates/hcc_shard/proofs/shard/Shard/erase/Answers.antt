@@ -2,7 +2,7 @@ use Rattle.std.proofs.Common.{◌≡◌, ◌-◌, ap, refl, arith}
 use Rattle.hcc_rule.specs.Callers.{geometry_of}
 use Rattle.hcc_rule.specs.Seats.{view}
 use Rattle.hcc_shard.proofs.Names.{load_is, not_kept}
-use Rattle.hcc_shard.proofs.Settlings.{erased_all, dead_settled, taken_settled}
+use Rattle.hcc_shard.proofs.Settlings.{erased_all, dead_settled, gone_settled, taken_settled}
 use Rattle.hcc_shard.specs.declared.erasing.TheConstants.{IN_FLIGHT}
 use Rattle.hcc_table.proofs.Finds.{seat_then}
 use Rattle.hcc_shard.proofs.Resting.{quiet_erased, rests_again}
@@ -51,6 +51,10 @@ returns-clause-erases g c =
       hides = c.hide-erased.ensures.hides;
       taken =
           taken_settled c.args.key erased.hidden erased.slots erased.charge
+          (view c.args.seat.now.seat) (view c.hide-erased.new.seat) (view c.settle.new.seat)
+          c.hide-erased.ensures.view c.settle.ensures.view;
+      gone =
+          gone_settled c.args.key erased.hidden erased.slots erased.charge
           (view c.args.seat.now.seat) (view c.hide-erased.new.seat) (view c.settle.new.seat)
           c.hide-erased.ensures.view c.settle.ensures.view;
       rest = c.settle.ensures.adds;

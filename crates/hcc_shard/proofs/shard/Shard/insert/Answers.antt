@@ -73,7 +73,7 @@ returns-in_err-reserved-clause-frees g c =
     frees_by (slots_of t) (room_of t) 0 c.args.seat.now.seat c.reserve.new.seat
     c.reserve.new.seat c.args.seat.now.effort c.reserve.new.effort (omega arith)
     (rose_same _ _ c.in_err-reserved.ensures.effort.0) c.in_err-reserved.ensures.steps
-    (omega arith) (record { turns = refl; takings = refl; opened = refl })
+    (omega arith) (record { turns = refl; takings = refl; gone = refl; opened = refl })
 
 pub returns-in_err-reserved-clause-steps : goal.returns-in_err-reserved-clause-steps
 returns-in_err-reserved-clause-steps g c =
@@ -155,7 +155,7 @@ returns-in-NoPlace-clause-evicts g c =
     let r = (rw c.in-NoPlace.is at c.in_ok-reserved.ensures.view).0 in
     leaves_unreserved c.args.self.now c.args.draft g.T.Tag.fits false c.args.seat.now _
     c.reserve.new.seat r (rw c.in-NoPlace.is at c.in_ok-reserved.ensures.evicts)
-    (record { turns = refl; takings = refl; opened = refl }) refl
+    (record { turns = refl; takings = refl; gone = refl; opened = refl }) refl
     (adds_none c.reserve.new.seat c.reserve.new.seat refl)
     refl
     c.in_ok-reserved.ensures.effort.0 refl
@@ -167,7 +167,7 @@ returns-in-NoPlace-clause-frees g c =
     c.reserve.new.seat c.args.seat.now.effort c.reserve.new.effort (omega arith)
     (rose_same _ _ c.in_ok-reserved.ensures.effort.0) c.in_ok-reserved.ensures.steps
     (omega arith)
-    (record { turns = refl; takings = refl; opened = refl })
+    (record { turns = refl; takings = refl; gone = refl; opened = refl })
 
 pub returns-in-NoPlace-clause-steps : goal.returns-in-NoPlace-clause-steps
 returns-in-NoPlace-clause-steps g c =

@@ -95,7 +95,7 @@ returns-in_err-reserved-clause-frees g c =
     frees_by (slots_of t) (room_of t) 0 c.args.seat.now.seat c.reserve.new.seat
     c.reserve.new.seat c.args.seat.now.effort c.reserve.new.effort (omega arith)
     (rose_same _ _ c.in_err-reserved.ensures.effort.0) c.in_err-reserved.ensures.steps
-    (omega arith) (record { turns = refl; takings = refl; opened = refl })
+    (omega arith) (record { turns = refl; takings = refl; gone = refl; opened = refl })
 
 pub returns-in_err-reserved-clause-steps : goal.returns-in_err-reserved-clause-steps
 returns-in_err-reserved-clause-steps g c =
