@@ -8,6 +8,7 @@ use Rattle.hcc_rule.specs.declared.view.Made.{Made}
 use Rattle.hcc_rule.specs.declared.view.View.{View}
 use Rattle.hcc_rule.specs.Closing.{Closes, IsWithin, has_entry, list_by, meta_at, over_entries, words_of}
 use Rattle.hcc_rule.specs.Passing.{joined_view, spent_view}
+use Rattle.hcc_rule.specs.Rule.{list_weighs, taken_weigh}
 use Rattle.hcc_shard.specs.declared.entries.ClosedShard.{ClosedShard}
 use Rattle.hcc_shard.specs.declared.seat.ShardSeat.{ShardSeat}
 use Rattle.hcc_shard.specs.declared.shard.Shard.{Shard}
@@ -130,6 +131,14 @@ pub record IsClosed {T : Type 0} (fits : T → Key → List ℕ → Type 0) (cac
       → over_entries cache.geometry.room (words_of left.table) cache.geometry.slots (λ slot. 1)
       + total (λ v. v.takings) (views_at s clients)
       ≡ total (λ v. length v.made) (views_at s clients)
+  -- and by every weighing of stamps, they and what the clients took weigh what the clients made: so
+  -- each entry that was made is left in one slot, or one client took it, once
+  pub weighed : (s : ℕ) (left : ClosedShard _)
+      (there : slice_get closed.shards.items s ≡ Some (Some left)) (h : Stamp → ℕ)
+      → over_entries cache.geometry.room (words_of left.table) cache.geometry.slots
+      (λ slot. h ((closes s left there).stamp_at slot))
+      + total (λ v. taken_weigh h v.gone) (views_at s clients)
+      ≡ total (λ v. list_weighs h v.client 0 v.made) (views_at s clients)
 
 -- the least number of a holder so far, with one more client, which holds so many handles
 abbrev pub with_holder : (held number : ℕ) → Option ℕ → Option ℕ

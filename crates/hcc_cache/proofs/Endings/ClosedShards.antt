@@ -35,7 +35,7 @@ use Rattle.hcc_cache.proofs.Endings.WithoutHandles.{holds_nothing}
 use Rattle.hcc_cache.proofs.Endings.JoinedSeats.{all_named, from_view, views_count, views_same}
 use Rattle.hcc_cache.proofs.Basics.Lists.{get_in_take, get_push, get_reverse, get_take}
 use Rattle.hcc_cache.proofs.Endings.MostKnown.{known_back}
-use Rattle.hcc_cache.proofs.Endings.JoinedMadeLists.{made_count, made_joined, records_joined, takings_joined}
+use Rattle.hcc_cache.proofs.Endings.JoinedMadeLists.{gone_joined, made_count, made_joined, made_weighs, records_joined, takings_joined}
 
 -- the number of the shard that was closed as number j
 abbrev index_of : {T : Type 0} → Cache T → (j : ℕ) → ℕ
@@ -393,6 +393,16 @@ module _ {T : Type 0} (fits : T → Key → List ℕ → Type 0) (cache : Cache 
           let made = made_count (views_at s old) (omega arith)
           (λ k w hw. (views_single s shard.0 shard.1 k w hw).3) in
           let left_is = (left_of s left (rw same at h)).closes.left in
+          omega arith;
+      weighed = λ s left found h.
+          let n = items_count in
+          let low = within items s (Some left) (rw same at found) in
+          let shard = there cache.shards.items s (omega arith) in
+          let views = views_count s old in
+          let gone = gone_joined h (views_at s old) (omega arith) in
+          let made = made_weighs h (views_at s old) (omega arith)
+          (λ k w hw. (views_single s shard.0 shard.1 k w hw).3) in
+          let left_is = (left_of s left (rw same at found)).closes.weighed h in
           omega arith;
     }
 

@@ -1,14 +1,18 @@
--- What views that were joined name as made, and how much.
+-- What views that were joined name as made and as taken, and how much.
 use Rattle.std.proofs.Common.{◌≡◌, ℕ, suc, ◌+◌, ◌≤◌, ◌==◌, Bool, true, false, cond, List, [], ◌∷◌, ◌++◌, Some, length, map, slice_get, sym, refl, ap, ◌∙◌, append_assoc, arith}
 use Rattle.std.specs.List.{find}
 use Rattle.std.proofs.lemmas.Bool.{eqb-true}
 use Rattle.std.proofs.lemmas.List.{append-nil}
+use Rattle.hcc_core.specs.declared.slot.Stamp.{Stamp}
 use Rattle.hcc_core.specs.Sums.{total}
+use Rattle.hcc_core.proofs.SumLemmas.{total-append}
+use Rattle.hcc_rule.specs.declared.view.Gone.{Gone}
 use Rattle.hcc_rule.specs.declared.view.Made.{Made}
 use Rattle.hcc_rule.specs.declared.view.Other.{Other}
 use Rattle.hcc_rule.specs.declared.view.View.{View}
 use Rattle.hcc_rule.specs.Closing.{list_by, made_by}
 use Rattle.hcc_rule.specs.Passing.{as_other, joined_view}
+use Rattle.hcc_rule.specs.Rule.{list_weighs, taken_weigh}
 use Rattle.hcc_cache.specs.Closings.{all_joined, joined_views}
 
 module _ {T : Type 0} where
@@ -101,6 +105,21 @@ module _ {T : Type 0} where
   takings_joined [] some = absurd (omega arith)
   takings_joined (v ∷ vs) some = joined_takings v vs
 
+  joined_gone : (h : Stamp → ℕ) (v : View T) (vs : List (View T))
+      → taken_weigh h (joined_views v vs).gone
+      ≡ taken_weigh h v.gone + total (λ (w : View T). taken_weigh h w.gone) vs
+  joined_gone h v [] = omega arith
+  joined_gone h v (w ∷ ws) =
+      let rest = joined_gone h (joined_view v w) ws in
+      let both = total-append (λ (g : Gone). h g.stamp) v.gone w.gone in
+      omega arith
+
+  -- What it took weighs as much as what all views took.
+  pub gone_joined : (h : Stamp → ℕ) (vs : List (View T)) → 1 ≤ length vs
+      → taken_weigh h (all_joined vs).gone ≡ total (λ (w : View T). taken_weigh h w.gone) vs
+  gone_joined h [] some = absurd (omega arith)
+  gone_joined h (v ∷ vs) some = joined_gone h v vs
+
   others_total : (vs : List (View T))
       → total (λ (o : Other). length o.made) (map as_other vs)
       ≡ total (λ (w : View T). length w.made) vs
@@ -116,3 +135,20 @@ module _ {T : Type 0} where
       let same = joined_same v vs in
       let sum = others_total vs in
       rw (same.1, others_after v vs single) (omega arith)
+
+  others_weigh : (h : Stamp → ℕ) (vs : List (View T))
+      → total (λ (o : Other). list_weighs h o.client 0 o.made) (map as_other vs)
+      ≡ total (λ (w : View T). list_weighs h w.client 0 w.made) vs
+  others_weigh h [] = refl
+  others_weigh h (w ∷ ws) = let rest = others_weigh h ws in omega arith
+
+  -- What it names as made weighs as much as what all views made.
+  pub made_weighs : (h : Stamp → ℕ) (vs : List (View T)) → 1 ≤ length vs → AreSingle vs
+      → list_weighs h (all_joined vs).client 0 (all_joined vs).made
+      + total (λ (o : Other). list_weighs h o.client 0 o.made) (all_joined vs).others
+      ≡ total (λ (w : View T). list_weighs h w.client 0 w.made) vs
+  made_weighs h [] some single = absurd (omega arith)
+  made_weighs h (v ∷ vs) some single =
+      let same = joined_same v vs in
+      let sum = others_weigh h vs in
+      rw (same.0, same.1, others_after v vs single) (omega arith)
