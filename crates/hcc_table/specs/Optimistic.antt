@@ -101,6 +101,15 @@ module _ {T A : Type 0} (fits : T → Key → List ℕ → Type 0) (table : Rule
         → LacksOnce table key (probe_slot (slots_of table) key j) old new
     pub few : MakesAtMost (4 * probe + 10 + words_for (length there.entry.value)) old new
 
+  -- what came of reading the entry in a slot, by the answer: it was read, or has to be held
+  abbrev pub ReadsAt : (slot : ℕ) → Tried → (before after : List ℕ) → (old new : SeatOf T) → Type 0
+  ReadsAt slot Other before after old new = ⊥
+  ReadsAt slot (Read got) before after old new =
+      (there : ReadsThere slot got before after old new)
+      × MakesAtMost (7 + words_for (length there.entry.value)) old new
+  ReadsAt slot Declined before after old new =
+      (after ≡ before) × MakesAtMost (7 + room_of table) old new
+
   -- what a probe found: no entry of the key, or one that was read, or one that has to be held
   abbrev pub TriesAt : (slot : ℕ) → Tried → (before after : List ℕ) → (old new : SeatOf T) → Type 0
   TriesAt slot Other before after old new =

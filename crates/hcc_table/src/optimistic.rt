@@ -1,15 +1,15 @@
 //! Values that are read without a reference: by loads alone, so that threads that read don't take
 //! each other's cache lines.
-ghost use Rattle.std.specs.Prelude.{◌≡◌, ◌+◌, ◌*◌, ◌<◌, ◌≤◌, true, false, ℕ, IfSome, IfNone, IsSome, length, slice_index};
+ghost use Rattle.std.specs.Prelude.{◌≡◌, ◌+◌, ◌*◌, ◌<◌, ◌≤◌, true, false, ℕ, IfSome, IfNone, length, slice_index};
 ghost use Rattle.hcc_rule.specs.declared.view.Record.{Record};
 ghost use Rattle.hcc_rule.specs.Callers.{room_of, slots_of, IsSeatAt, IsSlotAt};
 ghost use Rattle.hcc_rule.specs.Seats.{IsSameSeat, view};
 ghost use Rattle.hcc_rule.specs.Views.{Each};
 ghost use Rattle.hcc_rule.specs.Words.{key_of, payload_word, words_for};
 ghost use Rattle.hcc_table.specs.Efforts.{Took};
-ghost use Rattle.hcc_table.specs.Optimistic.{IsSpare, OnlyLoads, PeeksKey, PeeksOnce, Reads, ReadsOptimistic, ReadsThere, TriesAt};
+ghost use Rattle.hcc_table.specs.Optimistic.{IsSpare, OnlyLoads, PeeksKey, PeeksOnce, Reads, ReadsAt, ReadsOptimistic, TriesAt};
 ghost use Rattle.hcc_table.specs.Pins.{is_useful};
-ghost use Rattle.hcc_table.specs.Searched.{Sought};
+ghost use Rattle.hcc_table.specs.Searched.{Buried, Sought};
 ghost use Rattle.hcc_table.specs.Standing.{LacksOnce};
 ghost use Rattle.hcc_table.specs.Steps.{MakesAtMost, MakesFor};
 
@@ -25,8 +25,9 @@ use hcc_word::{hit, releases};
 use std::alloc::Allocator;
 
 /// The most words of a value that is read so: they wait in an array until it is known that they are
-/// of one entry.
-pub const MOST_WAITING: usize = 32;
+/// of one entry. Few of them wait in registers.
+const MOST_WAITING: usize = 32;
+const FEW_WAITING: usize = 2;
 
 /// What came of reading the value of a key.
 #[derive(Clone, Copy, Debug, PartialEq, Eq)]
@@ -109,8 +110,6 @@ pub fn read_optimistic<T: Tag, A: Allocator>(
 }
 
 /// Reads the value of the slot's entry, where it is one of this key, and needn't be held for it.
-///
-/// The look and the first loads of the key are hints: most slots are passed by them.
 #[inline(always)]
 fn try_read<T: Tag, A: Allocator>(
     table: &RuleTable<T, A>,
@@ -128,21 +127,48 @@ fn try_read<T: Tag, A: Allocator>(
     ensures tries { TriesAt T.fits table.now key (is_useful as_use) marks at.slot result
         buffer.old buffer.new seat.old seat.new }
 {
+    let Some(count) = hint_at(table, seat, at, key) else {
+        return Tried::Other;
+    };
+    if count <= 8 * FEW_WAITING as u64 {
+        return read_there(table, seat, at, key, as_use, marks, &mut [0; FEW_WAITING], buffer);
+    }
+    if count > 8 * MOST_WAITING as u64 {
+        return Tried::Declined;
+    }
+    read_there(table, seat, at, key, as_use, marks, &mut [0; MOST_WAITING], buffer)
+}
+
+/// How many bytes the value has that is in the slot, where that shows an entry which may be of the
+/// key. This is a hint: what is read is loaded again.
+#[inline(always)]
+fn hint_at<T: Tag, A: Allocator>(
+    table: &RuleTable<T, A>,
+    seat: &mut RuleSeat<T>,
+    at: SlotAt,
+    key: Key,
+) -> Option<u64>
+    requires seat { IsSeatAt table.now seat.old }
+    requires at { IsSlotAt table.now at }
+    ensures seat { IsSameSeat seat.old seat.new }
+    ensures by { Reads table.now seat.old seat.new }
+    ensures looked { IfSome result (λ _. (view seat.new).work.looked ≡ Some at.slot) }
+    ensures other { IfNone result (Buried key (λ s. s ≡ at.slot) (view seat.old) (view seat.new)
+        × LacksOnce table.now key at.slot seat.old seat.new) }
+    ensures steps { MakesAtMost 3 seat.old seat.new }
+{
     let seen = table.look_at(seat, at);
     if !is_shown(seen) {
-        return Tried::Other;
+        return None;
     }
-    if !shows_key(table, seat, at, key) {
-        return Tried::Other;
+    if table.peek_at(seat, at, KEY0) != key.w0 {
+        return None;
     }
-    match read_there(table, seat, at, key, as_use, marks, buffer) {
-        Some(got) => Tried::Read(got),
-        None => Tried::Declined,
-    }
+    Some(table.peek_at(seat, at, LENGTH))
 }
 
 /// Reads the value of the entry in a slot at which the client looked, where one entry stands there
-/// from its first glance to its last.
+/// from its first glance to its last. Its words wait in these.
 #[inline(always)]
 fn read_there<T: Tag, A: Allocator>(
     table: &RuleTable<T, A>,
@@ -151,35 +177,33 @@ fn read_there<T: Tag, A: Allocator>(
     key: Key,
     as_use: Use,
     marks: bool,
+    words: &mut [u64],
     buffer: &mut [u8],
-) -> Option<Got>
+) -> Tried
     requires seat { IsSeatAt table.now seat.old }
     requires at { IsSlotAt table.now at }
     requires looked { (view seat.old).work.looked ≡ Some at.slot }
     ensures seat { IsSameSeat seat.old seat.new }
     ensures by { Reads table.now seat.old seat.new }
-    ensures reads { IfSome result (λ got.
-        (there : ReadsThere T.fits table.now key (is_useful as_use) marks at.slot got
-        buffer.old buffer.new seat.old seat.new)
-        × MakesAtMost (7 + words_for (length there.entry.value)) seat.old seat.new) }
-    ensures unread { IfNone result (buffer.new ≡ buffer.old) }
-    ensures steps { MakesAtMost (7 + room_of table.now) seat.old seat.new }
+    ensures reads { ReadsAt T.fits table.now key (is_useful as_use) marks at.slot result
+        buffer.old buffer.new seat.old seat.new }
 {
     let stamp = table.glimpse_at(seat, at);
     let word = table.glance_at(seat, at);
     if !is_shown(word) || !is_spare(word, as_use, marks) {
-        return None;
+        return Tried::Declined;
     }
     if !shows_key(table, seat, at, key) {
-        return None;
+        return Tried::Declined;
     }
-    let mut words = [0; MOST_WAITING];
-    let count = load_value(table, seat, at, &mut words)?;
+    let Some(count) = load_value(table, seat, at, words) else {
+        return Tried::Declined;
+    };
     let last = table.glance_at(seat, at);
     if table.recheck_at(seat, at) != stamp || !is_shown(last) {
-        return None;
+        return Tried::Declined;
     }
-    Some(unpack(&words, count, buffer))
+    Tried::Read(unpack(words, count, buffer))
 }
 
 /// Whether one more use of an entry with this meta word, and one more hit, leave what they find.
@@ -247,7 +271,15 @@ fn load_value<T: Tag, A: Allocator>(
         return None;
     }
     let count = count as usize;
-    for index in 0..count.div_ceil(8) {
+    let all = count.div_ceil(8);
+    let fours = all / 4;
+    for four in 0..fours {
+        // These are unrolled.
+        for part in 0..4 {
+            words[4 * four + part] = table.peek_at(seat, at, PAYLOAD + (4 * four + part));
+        }
+    }
+    for index in 4 * fours..all {
         words[index] = table.peek_at(seat, at, PAYLOAD + index);
     }
     Some(count)

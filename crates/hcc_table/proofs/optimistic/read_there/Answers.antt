@@ -36,8 +36,8 @@ returns-then-not-shows_key-clause-by g c =
     (reads_kept c.args.table.now c.glance_at-word.new.seat c.shows_key.new.seat
     c.shows_key.ensures.view c.shows_key.ensures.loads)
 
-pub returns-in_err-count-clause-by : goal.returns-in_err-count-clause-by
-returns-in_err-count-clause-by g c =
+pub returns-in_default-clause-by : goal.returns-in_default-clause-by
+returns-in_default-clause-by g c =
     reads_then c.args.table.now c.args.seat.now c.glance_at-word.new.seat c.load_value.new.seat
     (first_reads c.args.table.now c.args.at.slot c.glimpse_at-stamp.result c.glance_at-word.result
     c.args.seat.now c.glimpse_at-stamp.new.seat c.glance_at-word.new.seat
@@ -186,24 +186,24 @@ returns-clause-reads g c = (
         subst (λ o. IfSome o (IsRightEntry g.T.Tag.fits (plan_of c.args.table.now).tag
         (room_of c.args.table.now))) here c.glance_at-word.ensures.right
 
-    long : c.in_ok-count.count ≡ length entry.value
+    long : c.in-Some.count ≡ length entry.value
     long =
-        fact (λ e. c.in_ok-count.count ≡ length e.value) keyed loaded to_keyed to_last
-        c.in_ok-count.ensures.length
+        fact (λ e. c.in-Some.count ≡ length e.value) keyed loaded to_keyed to_last
+        c.in-Some.ensures.length
 
     words : HasWords c.load_value.new.words entry.value
     words j within =
         fact (IsWord c.args.table.now c.args.at.slot c.load_value.new.words j) keyed loaded to_keyed
-        to_last (c.in_ok-count.ensures.words j (omega (arith, within, long))) within
+        to_last (c.in-Some.ensures.words j (omega (arith, within, long))) within
 
     few : made c.recheck_at.new.seat ≤ made c.args.seat.now + (7 + words_for (length entry.value))
     few =
         let glimpse = c.glimpse_at-stamp.ensures.step.one in
         let glance = c.glance_at-word.ensures.step.one in
         let halves = c.shows_key.ensures.steps in
-        let value = c.in_ok-count.ensures.fits.2 in
+        let value = c.in-Some.ensures.fits.2 in
         let back = c.glance_at-last.ensures.step.one in
         let check = c.recheck_at.ensures.step.one in
-        let same : words_for c.in_ok-count.count ≡ words_for (length entry.value) =
+        let same : words_for c.in-Some.count ≡ words_for (length entry.value) =
         ap words_for long in
         omega (arith, glimpse, glance, halves, value, back, check, same)
