@@ -24,8 +24,7 @@ use hcc_word::layout::GREATEST_CLOCKED;
 use hcc_word::{hit, releases};
 use std::alloc::Allocator;
 
-/// The most words of a value that is read so: they wait in an array until it is known that they are
-/// of one entry. Few of them wait in registers.
+/// The most words of a value that is read so: they wait until it is known that they are of one entry.
 const MOST_WAITING: usize = 32;
 const FEW_WAITING: usize = 2;
 
@@ -131,12 +130,12 @@ fn try_read<T: Tag, A: Allocator>(
         return Tried::Other;
     };
     if count <= 8 * FEW_WAITING as u64 {
-        return read_there(table, seat, at, key, as_use, marks, &mut [0; FEW_WAITING], buffer);
+        return read_few(table, seat, at, key, as_use, marks, buffer);
     }
     if count > 8 * MOST_WAITING as u64 {
         return Tried::Declined;
     }
-    read_there(table, seat, at, key, as_use, marks, &mut [0; MOST_WAITING], buffer)
+    read_many(table, seat, at, key, as_use, marks, buffer)
 }
 
 /// How many bytes the value has that is in the slot, where that shows an entry which may be of the
@@ -165,6 +164,53 @@ fn hint_at<T: Tag, A: Allocator>(
         return None;
     }
     Some(table.peek_at(seat, at, LENGTH))
+}
+
+/// Reads a value of few words, which wait in registers.
+#[inline(always)]
+fn read_few<T: Tag, A: Allocator>(
+    table: &RuleTable<T, A>,
+    seat: &mut RuleSeat<T>,
+    at: SlotAt,
+    key: Key,
+    as_use: Use,
+    marks: bool,
+    buffer: &mut [u8],
+) -> Tried
+    requires seat { IsSeatAt table.now seat.old }
+    requires at { IsSlotAt table.now at }
+    requires looked { (view seat.old).work.looked ≡ Some at.slot }
+    ensures seat { IsSameSeat seat.old seat.new }
+    ensures by { Reads table.now seat.old seat.new }
+    ensures reads { ReadsAt T.fits table.now key (is_useful as_use) marks at.slot result
+        buffer.old buffer.new seat.old seat.new }
+{
+    let mut words = [0; FEW_WAITING];
+    read_there(table, seat, at, key, as_use, marks, &mut words, buffer)
+}
+
+/// Reads one of more words. The array is made where it is needed, and by few instructions, since
+/// this function begins with it.
+#[inline(always)]
+fn read_many<T: Tag, A: Allocator>(
+    table: &RuleTable<T, A>,
+    seat: &mut RuleSeat<T>,
+    at: SlotAt,
+    key: Key,
+    as_use: Use,
+    marks: bool,
+    buffer: &mut [u8],
+) -> Tried
+    requires seat { IsSeatAt table.now seat.old }
+    requires at { IsSlotAt table.now at }
+    requires looked { (view seat.old).work.looked ≡ Some at.slot }
+    ensures seat { IsSameSeat seat.old seat.new }
+    ensures by { Reads table.now seat.old seat.new }
+    ensures reads { ReadsAt T.fits table.now key (is_useful as_use) marks at.slot result
+        buffer.old buffer.new seat.old seat.new }
+{
+    let mut words = [0; MOST_WAITING];
+    read_there(table, seat, at, key, as_use, marks, &mut words, buffer)
 }
 
 /// Reads the value of the entry in a slot at which the client looked, where one entry stands there
