@@ -84,7 +84,7 @@ module _ {T : Type 0} (s : StateOf T) where
     pub listed : slice_get (list_by maker stamp.client) stamp.number ≡ Some made
 
   -- what a view took is as many entries as it counts, and each was shown
-  pub record HasTaken (v : View T) : Type 0 where
+  pub record AreTaken (v : View T) : Type 0 where
     pub count : length v.gone ≡ v.takings
     pub each : Each (λ (g : Gone). IsListed g.stamp g.made) v.gone
 

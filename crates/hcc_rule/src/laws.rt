@@ -31,7 +31,7 @@ ghost use Rattle.hcc_rule.specs.Acts.{IsAllowed, IsFront, IsKnown, IsNoStepOf, I
 ghost use Rattle.hcc_rule.specs.Closing.{key_at};
 ghost use Rattle.hcc_rule.specs.Images.{entries_in};
 ghost use Rattle.hcc_rule.specs.ImageLimits.{AreRising, IsImageFor};
-ghost use Rattle.hcc_rule.specs.Laws.{LoggedStateOf, StateOf, due_in, ledger_word, displacement_word, has_entry, references_counted, references_held, AreMade, AreOfMade, HasTaken, HasWordsOfRecords, HoldsNothingTaken};
+ghost use Rattle.hcc_rule.specs.Laws.{LoggedStateOf, StateOf, due_in, ledger_word, displacement_word, has_entry, references_counted, references_held, AreMade, AreOfMade, AreTaken, HasWordsOfRecords, HoldsNothingTaken};
 ghost use Rattle.hcc_rule.specs.Logs.{HasBegun, HoldsLogged, first_logged, moves_in};
 ghost use Rattle.hcc_rule.specs.Opening.{begun_world};
 ghost use Rattle.hcc_rule.specs.Probes.{probe_slot};
@@ -133,7 +133,7 @@ pub fn law_made<T: Tag>()
 
     // So is each entry that a view took, and it took as many as it counts.
     ensures taken { (p : Plan T) (s : StateOf T) → Holds T.fits p s → (number : ℕ) (v : View T)
-        → slice_get s.views number ≡ Some v → HasTaken s v }
+        → slice_get s.views number ≡ Some v → AreTaken s v }
 
     // Nobody took what anyone holds.
     ensures held { (p : Plan T) (s : StateOf T) → Holds T.fits p s → (number : ℕ) (v : View T)

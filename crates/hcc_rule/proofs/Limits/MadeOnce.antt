@@ -16,7 +16,7 @@ use Rattle.hcc_rule.specs.declared.view.Made.{Made}
 use Rattle.hcc_rule.specs.declared.view.Record.{Record}
 use Rattle.hcc_rule.specs.declared.view.View.{View}
 use Rattle.hcc_rule.specs.Closing.{over_entries}
-use Rattle.hcc_rule.specs.Laws.{has_entry, one_of, times_taken, AreMade, IsListed, HasTaken, HoldsNothingTaken}
+use Rattle.hcc_rule.specs.Laws.{has_entry, one_of, times_taken, AreMade, IsListed, AreTaken, HoldsNothingTaken}
 use Rattle.hcc_rule.specs.Rule.{Books, books_weigh, entry_in, list_weighs, made_at, slot_weighs, IsRecorded, Holds}
 use Rattle.hcc_rule.proofs.Basics.Lists.{each_map}
 use Rattle.hcc_rule.proofs.LastSeat.ClosingSums.{total_range}
@@ -166,7 +166,7 @@ module _ {T : Type 0} (fits : T → Key → List ℕ → Type 0) (p : Plan T) (s
   }
 
   -- What a view took was shown.
-  pub taken_made : (number : ℕ) (v : View T) → slice_get s.views number ≡ Some v → HasTaken s v
+  pub taken_made : (number : ℕ) (v : View T) → slice_get s.views number ≡ Some v → AreTaken s v
   taken_made number v at = record {
     count = (r.stamps.given number v at).count;
     each = each_map (λ (g : Gone). made_at r.books g.stamp ≡ Some g.made)
