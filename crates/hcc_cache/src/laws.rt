@@ -10,7 +10,7 @@ ghost use Rattle.hcc_rule.specs.declared.layout.TheConstants.{OCCUPANCY};
 ghost use Rattle.hcc_rule.specs.declared.key.Key.{Key};
 ghost use Rattle.hcc_rule.specs.declared.view.View.{View};
 ghost use Rattle.hcc_rule.specs.Callers.{world_at};
-ghost use Rattle.hcc_rule.specs.Laws.{StateOf, ledger_word, AreMade, AreOfMade};
+ghost use Rattle.hcc_rule.specs.Laws.{StateOf, ledger_word, AreMade, AreOfMade, AreTaken, HoldsNothingTaken};
 ghost use Rattle.hcc_rule.specs.Seats.{view};
 ghost use Rattle.hcc_charge.specs.declared.reserving.Refused.{Refused};
 ghost use Rattle.hcc_charge.specs.declared.reserving.Reservation.TheVariants.{Reserved};
@@ -82,7 +82,9 @@ pub fn law_limits<T: Tag>()
 /// One insertion: what each shard's slots hold, and what clients hold there.
 pub fn law_insertions<T: Tag>()
     // In each slot with an entry stands one insertion, whoever holds it: its key, its value, its
-    // charge and its serial are a member of its maker's list. No two slots have the same.
+    // charge and its serial are a member of its maker's list. No two slots have the same. Each
+    // member of such a list stands in one slot and nobody took it, or one client took it once and
+    // it stands in none.
     ensures slots { (config : Config) (tag : T) (s : StateOf (Seeded T))
         (m : IsMoment T.fits config tag s) → AreMade (fits_seeded T.fits) (plan_in m) s }
 
@@ -90,6 +92,16 @@ pub fn law_insertions<T: Tag>()
     ensures records { (config : Config) (tag : T) (s : StateOf (Seeded T))
         (m : IsMoment T.fits config tag s) (number : ℕ) (v : View (Seeded T))
         → slice_get s.views number ≡ Some v → AreOfMade (fits_seeded T.fits) (plan_in m) s v }
+
+    // So is each entry that a client took to free its slot, and it took as many as it counts.
+    ensures taken { (config : Config) (tag : T) (s : StateOf (Seeded T))
+        (m : IsMoment T.fits config tag s) (number : ℕ) (v : View (Seeded T))
+        → slice_get s.views number ≡ Some v → AreTaken s v }
+
+    // Nobody took what anyone holds.
+    ensures held { (config : Config) (tag : T) (s : StateOf (Seeded T))
+        (m : IsMoment T.fits config tag s) (number : ℕ) (v : View (Seeded T))
+        → slice_get s.views number ≡ Some v → HoldsNothingTaken s v }
 {
     law_made::<Seeded<T>>();
 }

@@ -24,8 +24,9 @@ use Rattle.hcc_table.specs.Searched.{IsFound, IsMissed, Sought}
 use Rattle.hcc_table.specs.Seeking.{Seeks}
 use Rattle.hcc_table.specs.Standing.{ShowsOnce}
 use Rattle.hcc_table.specs.Still.{is_still}
-use Rattle.hcc_table.proofs.Lasting.{Led, finds_lasting, lacks_since, shows_since}
+use Rattle.hcc_table.proofs.Lasting.{finds_lasting}
 use Rattle.hcc_table.proofs.Loads.{loads_none, loads_seek, loads_then}
+use Rattle.hcc_table.proofs.Moments.{lacks_since, Led, shows_since}
 use Rattle.hcc_table.proofs.Probes.{dropped_last, found_held, found_then, given_at}
 use Rattle.hcc_table.proofs.Releases.{gives_still}
 use Rattle.hcc_table.proofs.Searches.{searched_refl, searched_then, sought_then}

@@ -28,8 +28,8 @@ use Rattle.hcc_table.specs.Optimistic.{OnlyLoads, PeeksOnce, Reads}
 use Rattle.hcc_table.specs.Searched.{Sought}
 use Rattle.hcc_table.specs.Seeking.{Seeks}
 use Rattle.hcc_table.specs.Standing.{shown_at}
-use Rattle.hcc_table.proofs.Lasting.{does_more, event_leads}
 use Rattle.hcc_table.proofs.Loads.{loads_then}
+use Rattle.hcc_table.proofs.Moments.{does_more, event_leads}
 use Rattle.hcc_table.proofs.Peeks.{IsPeek, peek_loads}
 use Rattle.hcc_table.proofs.Searches.{no_more, searched_refl, sought_then}
 use Rattle.hcc_table.proofs.Shown.{peek_shows}

@@ -42,7 +42,8 @@ use Rattle.hcc_table.specs.Searched.{is_key}
 use Rattle.hcc_table.specs.Seeking.{Empties, GoesOnBy, Seeks, is_settling}
 use Rattle.hcc_table.specs.Standing.{HidesShown, ShowsKey, counts_shown, entry_shown, shown_at, shown_of}
 use Rattle.hcc_table.proofs.Alone.{event_alone}
-use Rattle.hcc_table.proofs.Lasting.{alone_shows, event_trails, lacks_alone, led_none, looks_seek, none_shown, passes_lack, passes_seek, reach_seeks, reached_seeks, some_and}
+use Rattle.hcc_table.proofs.Lasting.{alone_shows, lacks_alone, looks_seek, passes_lack, passes_seek, reach_seeks, reached_seeks}
+use Rattle.hcc_table.proofs.Moments.{event_trails, led_none, none_shown, some_and}
 use Rattle.hcc_table.proofs.Probings.{one_longer}
 use Rattle.hcc_table.proofs.Seeking.{seeks_none, seeks_one, seeks_then}
 use Rattle.hcc_table.proofs.Setups.{slots_at}

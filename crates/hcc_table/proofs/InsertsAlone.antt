@@ -28,7 +28,8 @@ use Rattle.hcc_table.specs.Seeking.{GoesOnBy, Seeks, is_unpass}
 use Rattle.hcc_table.specs.Standing.{InsertsShown, ShowsKey, ShowsMore, ShowsSame, entry_shown, shown_at}
 use Rattle.hcc_table.specs.Tries.{Inserts, MatchesAt, PassesTaken, ShowsBy, UsesEntry}
 use Rattle.hcc_table.proofs.Alone.{event_alone}
-use Rattle.hcc_table.proofs.Lasting.{alone_shows, entry_seeks, met_there, none_shown, reach_seeks, reached_seeks, some_and}
+use Rattle.hcc_table.proofs.Lasting.{alone_shows, entry_seeks, met_there, reach_seeks, reached_seeks}
+use Rattle.hcc_table.proofs.Moments.{none_shown, some_and}
 use Rattle.hcc_table.proofs.Occupied.{occupy_tells, passed_keeps, show_tells, taken_tells, use_tells, writes_keep}
 use Rattle.hcc_table.proofs.Seeking.{seeks_one, seeks_then}
 use Rattle.hcc_table.proofs.Shown.{acquire_hides, acquire_shows}

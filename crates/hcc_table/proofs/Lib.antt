@@ -6,6 +6,7 @@ pub mod Reaches
 pub mod Probes
 pub mod Probings
 pub mod Shown
+pub mod Moments
 pub mod Lasting
 pub mod Loads
 pub mod Peeks

@@ -20,11 +20,11 @@ use Rattle.hcc_rule.specs.Words.{key_of, payload_word}
 use Rattle.hcc_rule.proofs.Basics.Lists.{each_map, word_else, word_here}
 use Rattle.hcc_table.specs.Optimistic.{OnlyLoads, PeeksKey, PeeksOnce}
 use Rattle.hcc_table.specs.Seeking.{Seeks}
-use Rattle.hcc_table.specs.Standing.{IsMomentOf, LacksOnce, ShowsKey, entry_shown, shown_at}
+use Rattle.hcc_table.specs.Standing.{LacksOnce, ShowsKey, entry_shown, shown_at}
 use Rattle.hcc_table.proofs.Finds.{seat_then}
-use Rattle.hcc_table.proofs.Lasting.{Led, does_more, led_none, moment_of, some_and}
 use Rattle.hcc_table.proofs.Loads.{loads_one, loads_seek, loads_then}
-use Rattle.hcc_table.proofs.Seeking.{seeks_none, seeks_then}
+use Rattle.hcc_table.proofs.Moments.{Led, led_none, moment_later, moment_of, some_and}
+use Rattle.hcc_table.proofs.Seeking.{seeks_none}
 use Rattle.hcc_table.proofs.Values.{value_word}
 
 -- The words of an entry's key and of its length.
@@ -158,31 +158,11 @@ second_held key slot second rs other =
 
 -- A value's words that are loaded one after the other.
 module _ {T A : Type 0} (table : RuleTable T A) where
-  -- a moment of a call is one of a call that goes on
-  pub moment_later : (moment old a b : SeatOf T) → IsMomentOf table moment old a → Seeks table a b
-      → IsMomentOf table moment old b
-  moment_later moment old a b m more =
-      let rest = seeks_then table moment a b m.rest more in
-      let later = does_more table rest.own moment b rest.does in
-      record {
-        before = m.before;
-        done = m.done;
-        began = m.began;
-        step = m.step;
-        seeking = m.seeking;
-        own = m.own;
-        rest = rest;
-        since = m.since;
-        begins = m.begins;
-        later = later.0;
-        goes_on = later.1;
-      }
-
   module _ (slot : ℕ) where
     -- so is what a load told then
     pub peeks_later : (P : Entry → Type 0) (old a b : SeatOf T) → PeeksOnce table slot P old a
         → Seeks table a b → PeeksOnce table slot P old b
-    peeks_later P old a b h more = (h.0, moment_later h.0 old a b h.1 more, h.2)
+    peeks_later P old a b h more = (h.0, moment_later table h.0 old a b h.1 more, h.2)
 
     -- this is the value's word of this index, where it has so many
     abbrev pub IsWord : (words : List ℕ) (j : ℕ) → Entry → Type 0

@@ -1,7 +1,6 @@
 -- The probes of an optimistic reading: what one tells, and one after the other.
-use Rattle.std.proofs.Common.{◌≡◌, inl, inr, ℕ, ◌+◌, ◌*◌, ◌<◌, ◌≤◌, Bool, true, false, List, [], ◌∷◌, ◌++◌, length, refl, sym, ap, subst, ◌∙◌, eq-or-lt_of_le, arith}
+use Rattle.std.proofs.Common.{◌≡◌, inl, inr, ℕ, ◌+◌, ◌*◌, ◌<◌, ◌≤◌, Bool, true, false, List, length, refl, sym, ap, subst, ◌∙◌, eq-or-lt_of_le, arith}
 use Rattle.std.proofs.lemmas.Bool.{cases_lt}
-use Rattle.std.proofs.lemmas.List.{append_assoc}
 use Rattle.hcc_word.specs.Word.{is_visible}
 use Rattle.hcc_core.specs.declared.slot.Entry.{Entry}
 use Rattle.hcc_core.specs.declared.slot.Stamp.{Stamp}
@@ -11,7 +10,6 @@ use Rattle.hcc_rule.specs.declared.key.Key.{Key}
 use Rattle.hcc_rule.specs.declared.table.RuleTable.{RuleTable}
 use Rattle.hcc_rule.specs.declared.view.Record.{Record}
 use Rattle.hcc_rule.specs.declared.view.View.{View}
-use Rattle.hcc_rule.specs.Acts.{past}
 use Rattle.hcc_rule.specs.Callers.{IsEvent, slots_of, world_at}
 use Rattle.hcc_rule.specs.Events.{count_done, look_done}
 use Rattle.hcc_rule.specs.Looked.{after_look}
@@ -28,12 +26,11 @@ use Rattle.hcc_table.specs.declared.optimistic.Tried.TheVariants.{Other, Read, D
 use Rattle.hcc_table.specs.Optimistic.{LacksAll, OnlyLoads, Reads, ReadsAt, ReadsOptimistic, ReadsShown, ReadsThere, TriesAt}
 use Rattle.hcc_table.specs.Searched.{Buried, Sought}
 use Rattle.hcc_table.specs.Seeking.{Seeks}
-use Rattle.hcc_table.specs.Standing.{IsMomentOf, LacksOnce, shown_at}
+use Rattle.hcc_table.specs.Standing.{LacksOnce, shown_at}
 use Rattle.hcc_table.specs.Steps.{MakesAtMost}
 use Rattle.hcc_table.proofs.Glances.{reads_kept, reads_then}
-use Rattle.hcc_table.proofs.Lasting.{Led, does_more, event_leads, event_trails, led_none, moment_of, moment_since, none_shown, some_and}
 use Rattle.hcc_table.proofs.Loads.{loads_one, loads_seek}
-use Rattle.hcc_table.proofs.Peeks.{moment_later}
+use Rattle.hcc_table.proofs.Moments.{event_leads, event_trails, lacks_within, Led, led_none, moment_of, moment_since, none_shown, some_and}
 use Rattle.hcc_table.proofs.Probes.{looked_at}
 use Rattle.hcc_table.proofs.Seeking.{seeks_none, seeks_then}
 use Rattle.hcc_table.proofs.Shown.{count_tells, look_tells, shown_counted}
@@ -83,12 +80,6 @@ module _ {T A : Type 0} (table : RuleTable T A) where
   count_loads slot n a b event = loads_one table (count_done slot n (view a)) a b event refl
 
   module _ (key : Key) where
-    -- a slot that lacked the key in a part of a call did so in the call
-    pub lacks_within : (slot : ℕ) (old a b new : SeatOf T) → Led table old a
-        → LacksOnce table key slot a b → Seeks table b new → LacksOnce table key slot old new
-    lacks_within slot old a b new led h more =
-        (h.0, moment_later table h.0 old b new (moment_since table old a h.0 b led h.1) more, h.2)
-
     -- a slot that isn't visible lacks the key
     pub look_lacks : (slot word : ℕ) (a b : SeatOf T)
         → IsEvent table (look_done slot word (view a)) a b → is_visible word ≡ false
@@ -160,9 +151,9 @@ module _ {T A : Type 0} (table : RuleTable T A) where
           | inl last ↦
               subst (λ s. LacksOnce table key s old new)
               (at ∙ ap (probe_slot (slots_of table) key) (sym last))
-              (lacks_within slot old now probed new led here more)
+              (lacks_within table key slot old now probed new led here more)
           | inr earlier ↦
-              lacks_within (probe_slot (slots_of table) key j) old old now new (led_none table old)
+              lacks_within table key (probe_slot (slots_of table) key j) old old now new (led_none table old)
               (before j earlier) (seeks_then table now probed new seeks more)
         ]
 

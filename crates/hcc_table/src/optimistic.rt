@@ -26,6 +26,7 @@ use std::alloc::Allocator;
 
 /// The most words of a value that is read so: they wait until it is known that they are of one entry.
 const MOST_WAITING: usize = 32;
+
 const FEW_WAITING: usize = 2;
 
 /// What came of reading the value of a key.

@@ -1,9 +1,10 @@
 use Rattle.std.proofs.Common.{sym, ◌∙◌}
 use Rattle.hcc_rule.specs.Seats.{view}
 use Rattle.hcc_table.proofs.Loads.{loads_then}
+use Rattle.hcc_table.proofs.Moments.{lacks_within}
 use Rattle.hcc_table.proofs.Peeks.{first_differs, first_held, peek_loads}
 use Rattle.hcc_table.proofs.Probes.{buried_by_look}
-use Rattle.hcc_table.proofs.ReadProbes.{buried_other, hints_read, lacks_within, look_lacks, look_reads, reads_led}
+use Rattle.hcc_table.proofs.ReadProbes.{buried_other, hints_read, look_lacks, look_reads, reads_led}
 use Rattle.hcc_table.proofs.Seeking.{seeks_none}
 use Rattle.hcc_table.proofs.optimistic.hint_at.Goals as goal
 

@@ -9,9 +9,9 @@ use Rattle.hcc_table.specs.Optimistic.{Reads, ReadsOptimistic}
 use Rattle.hcc_table.specs.Pins.{is_useful}
 use Rattle.hcc_table.specs.Searched.{Sought}
 use Rattle.hcc_table.proofs.Finds.{begins, ends, ends_all, goes_on, slot_is}
-use Rattle.hcc_table.proofs.Lasting.{led_none, led_then}
 use Rattle.hcc_table.proofs.Loads.{loads_none, loads_seek, loads_then}
-use Rattle.hcc_table.proofs.ReadProbes.{count_loads, lacked_all, lacked_each, lacked_more, lacks_within, reads_answered, reads_led, shown_there, there_earlier}
+use Rattle.hcc_table.proofs.Moments.{lacks_within, led_none, led_then}
+use Rattle.hcc_table.proofs.ReadProbes.{count_loads, lacked_all, lacked_each, lacked_more, reads_answered, reads_led, shown_there, there_earlier}
 use Rattle.hcc_table.proofs.Rises.{took_visited}
 use Rattle.hcc_table.proofs.Searches.{sought_then}
 use Rattle.hcc_table.proofs.optimistic.read_optimistic.Goals as goal

@@ -13,8 +13,8 @@ use Rattle.hcc_table.specs.Optimistic.{PeeksKey, PeeksOnce}
 use Rattle.hcc_table.specs.Readings.{HasWords}
 use Rattle.hcc_table.specs.Seeking.{Seeks}
 use Rattle.hcc_table.proofs.Glances.{FirstGlance, ShowsStamp, first_glance, first_reads, all_reads, last_glance, reads_kept, reads_then, same_key, stood_between}
-use Rattle.hcc_table.proofs.Lasting.{moment_of}
 use Rattle.hcc_table.proofs.Loads.{loads_seek, loads_then}
+use Rattle.hcc_table.proofs.Moments.{moment_of}
 use Rattle.hcc_table.proofs.Peeks.{IsWord, peek_led, peek_loads, shown_stands}
 use Rattle.hcc_table.proofs.Seeking.{seeks_none, seeks_then}
 use Rattle.hcc_table.proofs.optimistic.read_there.Goals as goal

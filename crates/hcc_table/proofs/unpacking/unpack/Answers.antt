@@ -1,4 +1,4 @@
-use Rattle.std.proofs.Common.{◌≡◌, ◌*◌, ◌+◌, ◌/◌, ◌%◌, ◌<◌, refl, sym, ◌∙◌, subst, arith}
+use Rattle.std.proofs.Common.{◌≡◌, ◌*◌, ◌+◌, ◌/◌, ◌%◌, refl, ◌∙◌, subst, arith}
 use Rattle.std.specs.Prelude.{min}
 use Rattle.hcc_table.proofs.Unpackings.{IsUnpacked, unpacks, all_unpacked}
 use Rattle.hcc_table.proofs.unpacking.unpack.Goals as goal
