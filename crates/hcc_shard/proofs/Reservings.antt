@@ -77,10 +77,10 @@ module _ {T : Type 0} where
   -- No entry is evicted by what puts one in a slot, or in none.
   pub idle_placed : (slot : ℕ) (draft : Draft) (value : List ℕ) (v w : View T)
       → Tried (after_show slot draft.name (made_of draft value) v) w → EvictsNothing v w
-  idle_placed slot draft value v w t = keeps_by _ w v t.same refl refl refl
+  idle_placed slot draft value v w t = keeps_by _ w v t.same refl refl refl refl
 
   pub idle_tried : (v w : View T) → Tried v w → EvictsNothing v w
-  idle_tried v w t = keeps_by _ w v t.same refl refl refl
+  idle_tried v w t = keeps_by _ w v t.same refl refl refl refl
 
   -- An insertion's turns are few.
   pub tries_within : {slots capacity : ℕ} {strict : Bool} {charge stamps : ℕ}

@@ -125,7 +125,7 @@ returns-in-None-clause-evicts g c =
     c.in_ok-reserved.ensures.effort c.put.ensures.tally
     (rw c.in-Reserved.is at c.in_ok-reserved.ensures.evicts)
     told.view.tried c.put.ensures.adds told.left.1
-    (keeps_by _ _ (view c.put.new.seat.seat) c.give_up.ensures.view refl refl refl)
+    (keeps_by _ _ (view c.put.new.seat.seat) c.give_up.ensures.view refl refl refl refl)
     (ap (λ (z : View g.row.T.Denot). z.met) c.give_up.ensures.view)
     (ap (λ (z : View g.row.T.Denot). z.saw) c.give_up.ensures.view) c.give_up.ensures.adds
     c.give_up.ensures.by told.left.2 told.left.3 refl
@@ -141,7 +141,7 @@ returns-in-None-clause-frees g c =
     (let few = put.steps in let back = c.give_up.ensures.steps in omega arith)
     (keeps_then (view c.reserve.new.seat) (view c.put.new.seat.seat) (view c.give_up.new.seat)
     (idle_tried (view c.reserve.new.seat) (view c.put.new.seat.seat) c.in-None.ensures.view.tried)
-    (keeps_by _ _ (view c.put.new.seat.seat) c.give_up.ensures.view refl refl refl))
+    (keeps_by _ _ (view c.put.new.seat.seat) c.give_up.ensures.view refl refl refl refl))
 
 pub returns-in-None-clause-steps : goal.returns-in-None-clause-steps
 returns-in-None-clause-steps g c =

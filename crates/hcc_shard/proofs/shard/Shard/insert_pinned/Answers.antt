@@ -145,7 +145,7 @@ returns-in-None-clause-evicts g c =
     c.in_ok-reserved.ensures.effort c.put.ensures.tally
     (rw c.in-Reserved.is at c.in_ok-reserved.ensures.evicts)
     told.view.tried c.put.ensures.adds told.left.1
-    (keeps_by _ _ (view c.put.new.seat.seat) c.stand.ensures.view refl refl refl)
+    (keeps_by _ _ (view c.put.new.seat.seat) c.stand.ensures.view refl refl refl refl)
     (ap (λ (z : View g.row.T.Denot). z.met) c.stand.ensures.view)
     (ap (λ (z : View g.row.T.Denot). z.saw) c.stand.ensures.view) c.stand.ensures.adds
     c.stand.ensures.by told.left.2 told.left.3 refl
@@ -161,7 +161,7 @@ returns-in-None-clause-frees g c =
     (let few = put.steps in let back = c.stand.ensures.steps in omega arith)
     (keeps_then (view c.reserve.new.seat) (view c.put.new.seat.seat) (view c.stand.new.seat)
     (idle_tried (view c.reserve.new.seat) (view c.put.new.seat.seat) c.in-None.ensures.view.tried)
-    (keeps_by _ _ (view c.put.new.seat.seat) c.stand.ensures.view refl refl refl))
+    (keeps_by _ _ (view c.put.new.seat.seat) c.stand.ensures.view refl refl refl refl))
 
 pub returns-in-None-clause-steps : goal.returns-in-None-clause-steps
 returns-in-None-clause-steps g c =
@@ -175,7 +175,7 @@ returns-in-NoPlace-clause-evicts g c =
     let r = (rw c.in-NoPlace.is at c.in_ok-reserved.ensures.view).0 in
     leaves_unreserved c.args.self.now c.args.draft g.T.Tag.fits true c.args.seat.now _
     c.reserve.new.seat r (rw c.in-NoPlace.is at c.in_ok-reserved.ensures.evicts)
-    (keeps_by _ _ (view c.reserve.new.seat) c.standalone_in.ensures.view refl refl refl)
+    (keeps_by _ _ (view c.reserve.new.seat) c.standalone_in.ensures.view refl refl refl refl)
     (ap (λ (z : View g.row.T.Denot). z.saw) c.standalone_in.ensures.view)
     c.standalone_in.ensures.adds c.standalone_in.ensures.by
     c.in_ok-reserved.ensures.effort.0 refl
@@ -187,7 +187,7 @@ returns-in-NoPlace-clause-frees g c =
     c.standalone_in.new.seat c.args.seat.now.effort c.reserve.new.effort (omega arith)
     (rose_same _ _ c.in_ok-reserved.ensures.effort.0) c.in_ok-reserved.ensures.steps
     (let few = c.standalone_in.ensures.steps in omega arith)
-    (keeps_by _ _ (view c.reserve.new.seat) c.standalone_in.ensures.view refl refl refl)
+    (keeps_by _ _ (view c.reserve.new.seat) c.standalone_in.ensures.view refl refl refl refl)
 
 pub returns-in-NoPlace-clause-steps : goal.returns-in-NoPlace-clause-steps
 returns-in-NoPlace-clause-steps g c =
