@@ -153,8 +153,8 @@ module _ {T A : Type 0} (table : RuleTable T A) where
               (at ∙ ap (probe_slot (slots_of table) key) (sym last))
               (lacks_within table key slot old now probed new led here more)
           | inr earlier ↦
-              lacks_within table key (probe_slot (slots_of table) key j) old old now new (led_none table old)
-              (before j earlier) (seeks_then table now probed new seeks more)
+              lacks_within table key (probe_slot (slots_of table) key j) old old now new
+              (led_none table old) (before j earlier) (seeks_then table now probed new seeks more)
         ]
 
     -- where no trail goes on, later probes lack it, too

@@ -24,7 +24,8 @@ use hcc_word::layout::GREATEST_CLOCKED;
 use hcc_word::{hit, releases};
 use std::alloc::Allocator;
 
-/// The most words of a value that is read so: they wait until it is known that they are of one entry.
+/// The most words of a value that is read so: they wait until it is known that they are of one
+/// entry.
 const MOST_WAITING: usize = 32;
 
 const FEW_WAITING: usize = 2;
