@@ -491,9 +491,9 @@ FERRETGOLD_INLINE ferretgold_status ferretgold_read_value(ferretgold_client *cli
  * mark or the entry is marked, and where the value has at most 256 bytes. Else, and where the entry
  * goes meanwhile, it begins anew, and holds a reference for the time of the call.
  *
- * By loads alone it costs two at each slot that it visits, two for the key, seven, and one for each
- * eight bytes; by a reference a look-up, a load for the length, one for each eight bytes, and an
- * add or a subtraction. Bound: 11 * L + 2 * W + 8.
+ * By loads alone it costs two at each slot that it visits, one more where that shows an entry, eight,
+ * and one for each eight bytes; by a reference a look-up, a load for the length, one for each eight
+ * bytes, and an add or a subtraction. Bound: 11 * L + 2 * W + 8.
  *
  * MISS: nothing of the key was found. Refuses TOO_SHORT: there is an entry, `length` gets how many
  * bytes its value has, and the buffer stays; with `useful` it was a use.

@@ -36,11 +36,11 @@ impl<T: Tag, A: Allocator> Shard<T, A> {
     /// It keeps no reference, uses no serial, and frees nothing: an entry that was erased
     /// meanwhile, and that nobody holds then, stays until the clock comes by. What the client holds
     /// stays. It refuses nothing and allocates nothing. By loads alone each probe costs one and one
-    /// of the displacement word, and where the slot is visible one of each half of the key that is
-    /// compared; a hit costs seven more, and one for each eight bytes. By a reference it costs a
-    /// look-up, a load for the length, one for each eight bytes, and an add or a subtraction. Both
-    /// ways together make at most 11·L + 2·W + 8 steps, in a shard of L slots with room for values
-    /// of W words. Where the loads alone were given up their probes aren't counted.
+    /// of the displacement word, and where the slot is visible one of half the key; a hit costs
+    /// eight more, and one for each eight bytes. By a reference it costs a look-up, a load for the
+    /// length, one for each eight bytes, and an add or a subtraction. Both ways together make at
+    /// most 11·L + 2·W + 8 steps, in a shard of L slots with room for values of W words. Where the
+    /// loads alone were given up their probes aren't counted.
     #[inline(always)]
     pub fn get(&self, seat: &mut ShardSeat<T>, key: Key, buffer: &mut [u8], as_use: Use) -> Got
         requires seat { Rests self.now seat.old }

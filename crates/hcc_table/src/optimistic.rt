@@ -61,8 +61,8 @@ pub(crate) enum Tried {
 /// where the entry has 3 and more; with `marks` for a hit, where the hit bit is set.
 ///
 /// It refuses nothing and allocates nothing. Each probe costs a load and one of the displacement
-/// word, and where the slot is visible a load of each half of the key that is compared; a hit costs
-/// seven loads more, and one for each eight bytes.
+/// word, and where the slot is visible a load of half the key; a hit costs eight loads more, and
+/// one for each eight bytes.
 #[inline(always)]
 pub fn read_optimistic<T: Tag, A: Allocator>(
     table: &RuleTable<T, A>,
