@@ -34,11 +34,11 @@ impl<T: Tag> Cache<T> {
     /// stays until the clock comes by.
     ///
     /// It refuses nothing and allocates nothing. By loads alone each probe costs one and one of the
-    /// displacement word, and where the slot is visible one of half the key; a hit costs eight more,
-    /// and one for each eight bytes. By a reference it costs a look-up, a load for the length, one
-    /// for each eight bytes, and an add or a subtraction. Both ways together make at most
-    /// 11·L + 2·W + 8 steps, for L slots of a shard and values of W words. Where the loads alone
-    /// were given up their probes aren't counted.
+    /// displacement word, and where the slot is visible one of half the key; a hit costs eight
+    /// more, and one for each eight bytes. By a reference it costs a look-up, a load for the
+    /// length, one for each eight bytes, and an add or a subtraction. Both ways together make at
+    /// most 11·L + 2·W + 8 steps, for L slots of a shard and values of W words. Where the loads
+    /// alone were given up their probes aren't counted.
     #[inline]
     pub fn get(&self, client: &mut Client<T>, key: Key, buffer: &mut [u8], useful: bool) -> Got
         requires { Knows self.now client.old }

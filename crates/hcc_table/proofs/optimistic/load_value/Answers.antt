@@ -51,7 +51,8 @@ returns-then-all-eq1-clause-words g c j low =
     (loaded_length c.args.table.now c.args.at.slot c.peek_at-count.result c.args.words.now
     c.args.seat.now c.peek_at-count.new.seat told.seat told.view told.event told.step.one
     told.word)
-    (omega (arith, all)) first.seat first.view first.event first.step.one first.word).each j (omega (arith, low, all, c.if-all-eq1.true))
+    (omega (arith, all)) first.seat first.view first.event first.step.one first.word).each j
+    (omega (arith, low, all, c.if-all-eq1.true))
 
 pub loop-four-init : goal.loop-four-init
 loop-four-init g c =
@@ -96,8 +97,8 @@ loop-index-preserved g c =
     let same = length-set (slice_set c.args.words.now 0 c.peek_at.result) 1 c.peek_at-2.result in
     loaded_more c.args.table.now c.args.at.slot c.peek_at-count.result c.loop-index.index
     c.peek_at-in-loop-index.result c.loop-index.words c.args.seat.now c.loop-index.seat
-    c.peek_at-in-loop-index.new.seat c.loop-index.invariant (omega (arith, long, same)) told.seat told.view
-    told.event told.step.one told.word
+    c.peek_at-in-loop-index.new.seat c.loop-index.invariant (omega (arith, long, same)) told.seat
+    told.view told.event told.step.one told.word
 
 pub returns-clause-words : goal.returns-clause-words
 returns-clause-words g c j low =
