@@ -320,23 +320,14 @@ fn load_value<T: Tag, A: Allocator>(
     }
     let count = count as usize;
     let all = count.div_ceil(8);
-    // Of one or two words a loop would cost more than they do.
-    if all == 0 {
-        return Some(count);
-    }
-    words[0] = table.peek_at(seat, at, PAYLOAD);
-    if all == 1 {
-        return Some(count);
-    }
-    words[1] = table.peek_at(seat, at, PAYLOAD + 1);
-    let fours = (all - 2) / 4;
+    let fours = all / 4;
     for four in 0..fours {
         // These are unrolled.
-        for part in 2..6 {
+        for part in 0..4 {
             words[4 * four + part] = table.peek_at(seat, at, PAYLOAD + (4 * four + part));
         }
     }
-    for index in 4 * fours + 2..all {
+    for index in 4 * fours..all {
         words[index] = table.peek_at(seat, at, PAYLOAD + index);
     }
     Some(count)

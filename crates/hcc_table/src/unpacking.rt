@@ -22,14 +22,7 @@ pub(crate) fn unpack(words: &[u64], count: usize, buffer: &mut [u8]) -> Got
         return Got::Short(count);
     }
     let whole = count / 8;
-    // Of a loop the compiler makes a call, which costs more than one or two words.
-    if whole > 0 {
-        put(buffer, 0, 8, words[0]);
-    }
-    if whole > 1 {
-        put(buffer, 8, 8, words[1]);
-    }
-    for index in 2..whole {
+    for index in 0..whole {
         put(buffer, 8 * index, 8, words[index]);
     }
     let rest = count % 8;

@@ -4,7 +4,7 @@ use Rattle.hcc_table.proofs.optimistic.load_value.Given as goal
 
 abbrev pub invariant-loop-four : goal.invariant-loop-four
 invariant-loop-four g l =
-    HasLoaded l.table l.at.slot l.count (4 * l.four + 2) l.words l.fn.seat l.seat
+    HasLoaded l.table l.at.slot l.count (4 * l.four) l.words l.fn.seat l.seat
 
 abbrev pub invariant-loop-part : goal.invariant-loop-part
 invariant-loop-part g l =

@@ -1,8 +1,6 @@
 use Rattle.std.proofs.Common.{◌*◌}
-use Rattle.std.specs.Prelude.{min}
 use Rattle.hcc_table.proofs.Unpackings.{IsUnpacked}
 use Rattle.hcc_table.proofs.unpacking.unpack.Given as goal
 
 abbrev pub invariant-loop-index : goal.invariant-loop-index
-invariant-loop-index l =
-    IsUnpacked l.words l.count (8 * min l.index l.whole) l.fn.buffer l.buffer
+invariant-loop-index l = IsUnpacked l.words l.count (8 * l.index) l.fn.buffer l.buffer
