@@ -157,82 +157,81 @@ second_held key slot second rs other =
     other (sym (second_half r.entry second (told on)) ∙ ap (λ (k : Key). k.w1) asked)) rs
 
 -- A value's words that are loaded one after the other.
-module _ {T A : Type 0} (table : RuleTable T A) where
-  module _ (slot : ℕ) where
-    -- so is what a load told then
-    pub peeks_later : (P : Entry → Type 0) (old a b : SeatOf T) → PeeksOnce table slot P old a
-        → Seeks table a b → PeeksOnce table slot P old b
-    peeks_later P old a b h more = (h.0, moment_later table h.0 old a b h.1 more, h.2)
+module _ {T A : Type 0} (table : RuleTable T A) (slot : ℕ) where
+  -- so is what a load told then
+  pub peeks_later : (P : Entry → Type 0) (old a b : SeatOf T) → PeeksOnce table slot P old a
+      → Seeks table a b → PeeksOnce table slot P old b
+  peeks_later P old a b h more = (h.0, moment_later table h.0 old a b h.1 more, h.2)
 
-    -- this is the value's word of this index, where it has so many
-    abbrev pub IsWord : (words : List ℕ) (j : ℕ) → Entry → Type 0
-    IsWord words j e = 8 * j < length e.value → slice_index words j ≡ payload_word e.value j
+  -- this is the value's word of this index, where it has so many
+  abbrev pub IsWord : (words : List ℕ) (j : ℕ) → Entry → Type 0
+  IsWord words j e = 8 * j < length e.value → slice_index words j ≡ payload_word e.value j
 
-    -- The length and the first so many words were loaded.
-    pub record HasLoaded (count index : ℕ) (words : List ℕ) (old now : SeatOf T) : Type 0 where
-      pub same : IsSameSeat old now
-      pub kept : view now ≡ view old
-      pub loads : OnlyLoads table old now
-      pub few : made now ≤ made old + 1 + index
-      pub long : PeeksOnce table slot (λ e. count ≡ length e.value) old now
-      pub each : (j : ℕ) → j < index → PeeksOnce table slot (IsWord words j) old now
+  -- The length and the first so many words were loaded.
+  pub record HasLoaded (count index : ℕ) (words : List ℕ) (old now : SeatOf T) : Type 0 where
+    pub same : IsSameSeat old now
+    pub kept : view now ≡ view old
+    pub loads : OnlyLoads table old now
+    pub few : made now ≤ made old + 1 + index
+    pub long : PeeksOnce table slot (λ e. count ≡ length e.value) old now
+    pub each : (j : ℕ) → j < index → PeeksOnce table slot (IsWord words j) old now
 
-    -- the length was loaded
-    pub loaded_length : (count : ℕ) (words : List ℕ) (old new : SeatOf T) → IsSameSeat old new
-        → view new ≡ view old → IsPeek table slot old new → made new ≡ made old + 1
-        → IfSome (entry_at (world_at table new) slot) (λ e. IsDataWord e LENGTH count)
-        → HasLoaded count 0 words old new
-    loaded_length count words old new same kept one step word = record {
-      same = same;
-      kept = kept;
-      loads = peek_loads table slot old new one;
-      few = omega arith;
-      long = peeked table slot (λ e. count ≡ length e.value) old old new new (led_none table old)
+  -- the length was loaded
+  pub loaded_length : (count : ℕ) (words : List ℕ) (old new : SeatOf T) → IsSameSeat old new
+      → view new ≡ view old → IsPeek table slot old new → made new ≡ made old + 1
+      → IfSome (entry_at (world_at table new) slot) (λ e. IsDataWord e LENGTH count)
+      → HasLoaded count 0 words old new
+  loaded_length count words old new same kept one step word = record {
+    same = same;
+    kept = kept;
+    loads = peek_loads table slot old new one;
+    few = omega arith;
+    long = peeked table slot (λ e. count ≡ length e.value) old old new new (led_none table old)
+        one (seeks_none table new)
+        (some_map (λ e. IsDataWord e LENGTH count) (λ e. count ≡ length e.value)
+        (λ e. long_word e count) _ word);
+    each = λ j low. absurd (omega arith);
+  }
+
+  -- a word more
+  pub loaded_more : (count index word : ℕ) (words : List ℕ) (old now new : SeatOf T)
+      → HasLoaded count index words old now → index < length words → IsSameSeat now new
+      → view new ≡ view now → IsPeek table slot now new → made new ≡ made now + 1
+      → IfSome (entry_at (world_at table new) slot)
+      (λ e. IsDataWord e (PAYLOAD + index) word)
+      → HasLoaded count (index + 1) (slice_set words index word) old new
+  loaded_more count index word words old now new h inside same kept one step told = record {
+    same = seat_then old now new h.same same;
+    kept = kept ∙ h.kept;
+    loads = loads_then table old now new h.loads (peek_loads table slot now new one);
+    few = let so_far = h.few in omega arith;
+    long = peeks_later (λ e. count ≡ length e.value) old now new h.long more;
+    each = λ j low. elim (eq-or-lt_of_le (let most : j ≤ index = omega arith in most)) [
+      | inl last ↦
+          subst (λ k. PeeksOnce table slot (IsWord (slice_set words index word) k) old new)
+          (sym last) newest
+      | inr before ↦
+          let kept_word : slice_index (slice_set words index word) j ≡ slice_index words j =
+          word_else words index j word (λ same. omega arith) in
+          let earlier = h.each j before in
+          peeks_later (IsWord (slice_set words index word) j) old now new (
+            earlier.0,
+            earlier.1,
+            some_map (IsWord words j) (IsWord (slice_set words index word) j)
+                (λ e is within. kept_word ∙ is within) _ earlier.2,
+          ) more
+    ];
+  }
+    where
+      more : Seeks table now new
+      more = loads_seek table now new (peek_loads table slot now new one)
+
+      newest : PeeksOnce table slot (IsWord (slice_set words index word) index) old new
+      newest =
+          peeked table slot (IsWord (slice_set words index word) index) old now new new
+          (record { seeks = loads_seek table old now h.loads; same = ap (λ v. v.client) h.kept })
           one (seeks_none table new)
-          (some_map (λ e. IsDataWord e LENGTH count) (λ e. count ≡ length e.value)
-          (λ e. long_word e count) _ word);
-      each = λ j low. absurd (omega arith);
-    }
-
-    -- a word more
-    pub loaded_more : (count index word : ℕ) (words : List ℕ) (old now new : SeatOf T)
-        → HasLoaded count index words old now → index < length words → IsSameSeat now new
-        → view new ≡ view now → IsPeek table slot now new → made new ≡ made now + 1
-        → IfSome (entry_at (world_at table new) slot)
-        (λ e. IsDataWord e (PAYLOAD + index) word)
-        → HasLoaded count (index + 1) (slice_set words index word) old new
-    loaded_more count index word words old now new h inside same kept one step told = record {
-      same = seat_then old now new h.same same;
-      kept = kept ∙ h.kept;
-      loads = loads_then table old now new h.loads (peek_loads table slot now new one);
-      few = let so_far = h.few in omega arith;
-      long = peeks_later (λ e. count ≡ length e.value) old now new h.long more;
-      each = λ j low. elim (eq-or-lt_of_le (let most : j ≤ index = omega arith in most)) [
-        | inl last ↦
-            subst (λ k. PeeksOnce table slot (IsWord (slice_set words index word) k) old new)
-            (sym last) newest
-        | inr before ↦
-            let kept_word : slice_index (slice_set words index word) j ≡ slice_index words j =
-            word_else words index j word (λ same. omega arith) in
-            let earlier = h.each j before in
-            peeks_later (IsWord (slice_set words index word) j) old now new (
-              earlier.0,
-              earlier.1,
-              some_map (IsWord words j) (IsWord (slice_set words index word) j)
-                  (λ e is within. kept_word ∙ is within) _ earlier.2,
-            ) more
-      ];
-    }
-      where
-        more : Seeks table now new
-        more = loads_seek table now new (peek_loads table slot now new one)
-
-        newest : PeeksOnce table slot (IsWord (slice_set words index word) index) old new
-        newest =
-            peeked table slot (IsWord (slice_set words index word) index) old now new new
-            (record { seeks = loads_seek table old now h.loads; same = ap (λ v. v.client) h.kept })
-            one (seeks_none table new)
-            (some_map (λ e. IsDataWord e (PAYLOAD + index) word)
-            (IsWord (slice_set words index word) index)
-            (λ e is within. word_here words index word inside ∙ value_word e index word within is)
-            _ told)
+          (some_map (λ e. IsDataWord e (PAYLOAD + index) word)
+          (IsWord (slice_set words index word) index)
+          (λ e is within. word_here words index word inside ∙ value_word e index word within is)
+          _ told)

@@ -2,7 +2,6 @@
 use Rattle.std.proofs.Common.{◌≡◌, inl, inr, ℕ, ◌+◌, ◌*◌, ◌<◌, ◌≤◌, Bool, true, false, List, length, refl, sym, ap, subst, ◌∙◌, eq-or-lt_of_le, arith}
 use Rattle.std.proofs.lemmas.Bool.{cases_lt}
 use Rattle.hcc_word.specs.Word.{is_visible}
-use Rattle.hcc_core.specs.declared.slot.Entry.{Entry}
 use Rattle.hcc_core.specs.declared.slot.Stamp.{Stamp}
 use Rattle.hcc_core.specs.Lawful.{is_in}
 use Rattle.hcc_core.specs.World.{passed_by}
@@ -14,16 +13,14 @@ use Rattle.hcc_rule.specs.Callers.{IsEvent, slots_of, world_at}
 use Rattle.hcc_rule.specs.Events.{count_done, look_done}
 use Rattle.hcc_rule.specs.Looked.{after_look}
 use Rattle.hcc_rule.specs.Probes.{probe_slot}
-use Rattle.hcc_rule.specs.Seats.{SeatOf, made, view}
+use Rattle.hcc_rule.specs.Seats.{SeatOf, view}
 use Rattle.hcc_rule.specs.Views.{Each}
 use Rattle.hcc_rule.specs.Words.{key_of, words_for}
 use Rattle.hcc_rule.proofs.Basics.Lists.{each_map}
 use Rattle.hcc_rule.proofs.Probes.ProbeLaws.{probe_of_slot}
 use Rattle.hcc_table.specs.declared.optimistic.Got.{Got}
 use Rattle.hcc_table.specs.declared.optimistic.Got.TheVariants.{Hit, Miss, Short}
-use Rattle.hcc_table.specs.declared.optimistic.Tried.{Tried}
-use Rattle.hcc_table.specs.declared.optimistic.Tried.TheVariants.{Other, Read, Declined}
-use Rattle.hcc_table.specs.Optimistic.{LacksAll, OnlyLoads, Reads, ReadsAt, ReadsOptimistic, ReadsShown, ReadsThere, TriesAt}
+use Rattle.hcc_table.specs.Optimistic.{LacksAll, OnlyLoads, Reads, ReadsOptimistic, ReadsShown, ReadsThere}
 use Rattle.hcc_table.specs.Searched.{Buried, Sought}
 use Rattle.hcc_table.specs.Seeking.{Seeks}
 use Rattle.hcc_table.specs.Standing.{LacksOnce, shown_at}
@@ -120,21 +117,6 @@ module _ {T A : Type 0} (table : RuleTable T A) where
       },
       refl,
     )
-
-    -- what came of reading the entry in a slot, behind a look and two loads, came of the probe
-    pub tries_there : (fits : T → Key → List ℕ → Type 0) (useful marks : Bool) (slot : ℕ)
-        (tried : Tried) (before after : List ℕ) (old a b : SeatOf T) → Reads table old a
-        → made a ≤ made old + 3
-        → ReadsAt fits table key useful marks slot tried before after a b
-        → TriesAt fits table key useful marks slot tried before after old b
-    tries_there fits useful marks slot Other before after old a b led few h = absurd h
-    tries_there fits useful marks slot (Read got) before after old a b led few h =
-        let there = there_earlier old a b led h.0 in
-        let same = ap (λ (e : Entry). words_for (length e.value)) there.1 in
-        let rest = h.1 in
-        (there.0, omega (arith, few, rest, same))
-    tries_there fits useful marks slot Declined before after old a b led few h =
-        let rest = h.1 in (h.0, omega (arith, few, rest))
 
     -- the first so many probes lacked the key once
     abbrev pub LackedUpTo : (i : ℕ) → (old now : SeatOf T) → Type 0

@@ -1,5 +1,5 @@
 -- What an optimistic reading found and copied: one that holds no reference on the entry meanwhile.
-use Rattle.std.specs.Prelude.{◌≡◌, ℕ, ◌+◌, ◌*◌, ◌<◌, Bool, true, false, List, Some, IfSome, length}
+use Rattle.std.specs.Prelude.{◌≡◌, ℕ, ◌+◌, ◌*◌, ◌<◌, Bool, true, false, List, Option, Some, None, IfSome, length}
 use Rattle.hcc_word.specs.declared.layout.TheConstants.{GREATEST_CLOCKED}
 use Rattle.hcc_word.specs.Word.{hit_of, is_visible, releases_of}
 use Rattle.hcc_core.specs.declared.event.Event.{Event}
@@ -19,10 +19,8 @@ use Rattle.hcc_rule.specs.Views.{Each}
 use Rattle.hcc_rule.specs.Words.{key_of, words_for}
 use Rattle.hcc_table.specs.declared.optimistic.Got.{Got}
 use Rattle.hcc_table.specs.declared.optimistic.Got.TheVariants.{Hit, Miss, Short}
-use Rattle.hcc_table.specs.declared.optimistic.Tried.{Tried}
-use Rattle.hcc_table.specs.declared.optimistic.Tried.TheVariants.{Other, Read, Declined}
 use Rattle.hcc_table.specs.Readings.{CopiesOut}
-use Rattle.hcc_table.specs.Searched.{Buried, IsMissed, Sought}
+use Rattle.hcc_table.specs.Searched.{IsMissed, Sought}
 use Rattle.hcc_table.specs.Seeking.{Does}
 use Rattle.hcc_table.specs.Standing.{IsMomentOf, LacksOnce, shown_at}
 use Rattle.hcc_table.specs.Steps.{MakesAtMost}
@@ -101,25 +99,14 @@ module _ {T A : Type 0} (fits : T → Key → List ℕ → Type 0) (table : Rule
         → LacksOnce table key (probe_slot (slots_of table) key j) old new
     pub few : MakesAtMost (4 * probe + 10 + words_for (length there.entry.value)) old new
 
-  -- what came of reading the entry in a slot, by the answer: it was read, or has to be held
-  abbrev pub ReadsAt : (slot : ℕ) → Tried → (before after : List ℕ) → (old new : SeatOf T) → Type 0
-  ReadsAt slot Other before after old new = ⊥
-  ReadsAt slot (Read got) before after old new =
+  -- what came of reading the entry in a slot: it was read, or has to be held
+  abbrev pub ReadsAt : (slot : ℕ) → Option Got → (before after : List ℕ) → (old new : SeatOf T)
+      → Type 0
+  ReadsAt slot (Some got) before after old new =
       (there : ReadsThere slot got before after old new)
       × MakesAtMost (7 + words_for (length there.entry.value)) old new
-  ReadsAt slot Declined before after old new =
+  ReadsAt slot None before after old new =
       (after ≡ before) × MakesAtMost (7 + room_of table) old new
-
-  -- what a probe found: no entry of the key, or one that was read, or one that has to be held
-  abbrev pub TriesAt : (slot : ℕ) → Tried → (before after : List ℕ) → (old new : SeatOf T) → Type 0
-  TriesAt slot Other before after old new =
-      (after ≡ before) × Buried key (λ s. s ≡ slot) (view old) (view new)
-      × LacksOnce table key slot old new × MakesAtMost 3 old new
-  TriesAt slot (Read got) before after old new =
-      (there : ReadsThere slot got before after old new)
-      × MakesAtMost (10 + words_for (length there.entry.value)) old new
-  TriesAt slot Declined before after old new =
-      (after ≡ before) × MakesAtMost (10 + room_of table) old new
 
   -- what an optimistic reading did, by its answer
   abbrev pub ReadsOptimistic : Got → (before after : List ℕ) → (old new : SeatOf T) → Type 0

@@ -7,7 +7,7 @@ ghost use Rattle.hcc_rule.specs.Seats.{IsSameSeat, view};
 ghost use Rattle.hcc_rule.specs.Views.{Each};
 ghost use Rattle.hcc_rule.specs.Words.{key_of, payload_word, words_for};
 ghost use Rattle.hcc_table.specs.Efforts.{Took};
-ghost use Rattle.hcc_table.specs.Optimistic.{IsSpare, OnlyLoads, PeeksKey, PeeksOnce, Reads, ReadsAt, ReadsOptimistic, TriesAt};
+ghost use Rattle.hcc_table.specs.Optimistic.{IsSpare, OnlyLoads, PeeksKey, PeeksOnce, Reads, ReadsAt, ReadsOptimistic};
 ghost use Rattle.hcc_table.specs.Pins.{is_useful};
 ghost use Rattle.hcc_table.specs.Searched.{Buried, Sought};
 ghost use Rattle.hcc_table.specs.Standing.{LacksOnce};
@@ -39,17 +39,6 @@ pub enum Got {
     Hit(usize),
     /// The value has so many bytes, and the buffer has fewer.
     Short(usize),
-}
-
-/// What came of trying to read the value of a slot's entry.
-#[derive(Clone, Copy, Debug, PartialEq, Eq)]
-pub(crate) enum Tried {
-    /// The slot showed no entry of the key.
-    Other,
-    /// The value was read.
-    Read(Got),
-    /// The entry has to be held for it.
-    Declined,
 }
 
 /// Copies the value of a visible entry of the key to the front of a buffer, as a reading by a
@@ -92,13 +81,10 @@ pub fn read_optimistic<T: Tag, A: Allocator>(
         let slot = walk.slot();
         let data = table.data_of(slot);
         let at = SlotAt { slot, data };
-        match try_read(table, seat, at, key, as_use, marks, buffer) {
-            Tried::Other => {}
-            Tried::Read(got) => {
-                effort.probes(probe as u64 + 1);
-                return Some(got);
-            }
-            Tried::Declined => return None,
+        if let Some(count) = hint_at(table, seat, at, key) {
+            let got = read_hinted(table, seat, at, key, as_use, marks, count, buffer)?;
+            effort.probes(probe as u64 + 1);
+            return Some(got);
         }
         if table.count_at(seat, at) == 0 {
             effort.probes(probe as u64 + 1);
@@ -108,36 +94,6 @@ pub fn read_optimistic<T: Tag, A: Allocator>(
     }
     effort.probes(slots as u64);
     Some(Got::Miss)
-}
-
-/// Reads the value of the slot's entry, where it is one of this key, and needn't be held for it.
-#[inline(always)]
-fn try_read<T: Tag, A: Allocator>(
-    table: &RuleTable<T, A>,
-    seat: &mut RuleSeat<T>,
-    at: SlotAt,
-    key: Key,
-    as_use: Use,
-    marks: bool,
-    buffer: &mut [u8],
-) -> Tried
-    requires seat { IsSeatAt table.now seat.old }
-    requires at { IsSlotAt table.now at }
-    ensures seat { IsSameSeat seat.old seat.new }
-    ensures by { Reads table.now seat.old seat.new }
-    ensures tries { TriesAt T.fits table.now key (is_useful as_use) marks at.slot result
-        buffer.old buffer.new seat.old seat.new }
-{
-    let Some(count) = hint_at(table, seat, at, key) else {
-        return Tried::Other;
-    };
-    if count <= 8 * FEW_WAITING as u64 {
-        return read_few(table, seat, at, key, as_use, marks, buffer);
-    }
-    if count > 8 * MOST_WAITING as u64 {
-        return Tried::Declined;
-    }
-    read_many(table, seat, at, key, as_use, marks, buffer)
 }
 
 /// How many bytes the value has that is in the slot, where that shows an entry which may be of the
@@ -168,17 +124,18 @@ fn hint_at<T: Tag, A: Allocator>(
     Some(table.peek_at(seat, at, LENGTH))
 }
 
-/// Reads a value of few words, which wait in registers.
+/// Reads a value of so many bytes, as it was found, where it needn't be held for it.
 #[inline(always)]
-fn read_few<T: Tag, A: Allocator>(
+fn read_hinted<T: Tag, A: Allocator>(
     table: &RuleTable<T, A>,
     seat: &mut RuleSeat<T>,
     at: SlotAt,
     key: Key,
     as_use: Use,
     marks: bool,
+    count: u64,
     buffer: &mut [u8],
-) -> Tried
+) -> Option<Got>
     requires seat { IsSeatAt table.now seat.old }
     requires at { IsSlotAt table.now at }
     requires looked { (view seat.old).work.looked ≡ Some at.slot }
@@ -187,14 +144,19 @@ fn read_few<T: Tag, A: Allocator>(
     ensures reads { ReadsAt T.fits table.now key (is_useful as_use) marks at.slot result
         buffer.old buffer.new seat.old seat.new }
 {
-    let mut words = [0; FEW_WAITING];
-    read_there(table, seat, at, key, as_use, marks, &mut words, buffer)
+    if count <= 8 * FEW_WAITING as u64 {
+        return read_waiting::<_, _, FEW_WAITING>(table, seat, at, key, as_use, marks, buffer);
+    }
+    if count > 8 * MOST_WAITING as u64 {
+        return None;
+    }
+    read_waiting::<_, _, MOST_WAITING>(table, seat, at, key, as_use, marks, buffer)
 }
 
-/// Reads one of more words. The array is made where it is needed, and by few instructions, since
-/// this function begins with it.
+/// Reads a value of at most so many words, 32 at most, which wait in an array: few of them in
+/// registers. It is made by few instructions, since this function begins with it.
 #[inline(always)]
-fn read_many<T: Tag, A: Allocator>(
+fn read_waiting<T: Tag, A: Allocator, const WORDS: usize>(
     table: &RuleTable<T, A>,
     seat: &mut RuleSeat<T>,
     at: SlotAt,
@@ -202,7 +164,8 @@ fn read_many<T: Tag, A: Allocator>(
     as_use: Use,
     marks: bool,
     buffer: &mut [u8],
-) -> Tried
+) -> Option<Got>
+    requires few { WORDS ≤ 32 }
     requires seat { IsSeatAt table.now seat.old }
     requires at { IsSlotAt table.now at }
     requires looked { (view seat.old).work.looked ≡ Some at.slot }
@@ -211,7 +174,7 @@ fn read_many<T: Tag, A: Allocator>(
     ensures reads { ReadsAt T.fits table.now key (is_useful as_use) marks at.slot result
         buffer.old buffer.new seat.old seat.new }
 {
-    let mut words = [0; MOST_WAITING];
+    let mut words = [0; WORDS];
     read_there(table, seat, at, key, as_use, marks, &mut words, buffer)
 }
 
@@ -227,7 +190,7 @@ fn read_there<T: Tag, A: Allocator>(
     marks: bool,
     words: &mut [u64],
     buffer: &mut [u8],
-) -> Tried
+) -> Option<Got>
     requires seat { IsSeatAt table.now seat.old }
     requires at { IsSlotAt table.now at }
     requires looked { (view seat.old).work.looked ≡ Some at.slot }
@@ -239,19 +202,19 @@ fn read_there<T: Tag, A: Allocator>(
     let stamp = table.glimpse_at(seat, at);
     let word = table.glance_at(seat, at);
     if !is_shown(word) || !is_spare(word, as_use, marks) {
-        return Tried::Declined;
+        return None;
     }
     if !shows_key(table, seat, at, key) {
-        return Tried::Declined;
+        return None;
     }
     let Some(count) = load_value(table, seat, at, words) else {
-        return Tried::Declined;
+        return None;
     };
     let last = table.glance_at(seat, at);
     if table.recheck_at(seat, at) != stamp || !is_shown(last) {
-        return Tried::Declined;
+        return None;
     }
-    Tried::Read(unpack(words, count, buffer))
+    Some(unpack(words, count, buffer))
 }
 
 /// Whether one more use of an entry with this meta word, and one more hit, leave what they find.
