@@ -1,11 +1,12 @@
 -- The words of a state, by their names, for what holds of every state that keeps the rule.
-use Rattle.std.specs.Prelude.{◌≡◌, ℕ, zero, suc, ◌+◌, ◌%◌, ◌^◌, ◌<◌, Bool, true, List, [], ◌++◌, Some, map, slice_get, slice_index, ◌&&◌, ◌==◌, length}
+use Rattle.std.specs.Prelude.{◌≡◌, ℕ, zero, suc, ◌+◌, ◌%◌, ◌^◌, ◌<◌, Bool, true, List, [], ◌++◌, Some, map, slice_get, slice_index, length}
 use Rattle.std.specs.List.{range_with_len}
 use Rattle.atomic_table.specs.Table as table
 use Rattle.hcc_word.specs.Word.{is_shareable, refs_of}
 use Rattle.hcc_core.specs.declared.limits.TheConstants.{SLOTS_PER_TURN}
 use Rattle.hcc_core.specs.declared.slot.Entry.{Entry}
 use Rattle.hcc_core.specs.declared.slot.Stamp.{Stamp}
+use Rattle.hcc_core.specs.References.{is_stamp}
 use Rattle.hcc_core.specs.Sums.{total, when}
 use Rattle.hcc_rule.specs.declared.key.Key.{Key}
 use Rattle.hcc_rule.specs.declared.layout.TheConstants.{META, DISPLACEMENT, DATA}
@@ -67,7 +68,7 @@ module _ {T : Type 0} (p : Plan T) (s : StateOf T) where
 
 -- a weighing of stamps that finds this one
 abbrev pub one_of : Stamp → Stamp → ℕ
-one_of stamp other = when (other.client == stamp.client && other.number == stamp.number) 1
+one_of stamp other = when (is_stamp other stamp) 1
 
 module _ {T : Type 0} (s : StateOf T) where
   -- how often views took the entry of this stamp

@@ -13,6 +13,7 @@ use Rattle.hcc_rule.specs.Closing.{Closes, IsWithin, words_of}
 use Rattle.hcc_rule.specs.Ending.{ShowsWorld}
 use Rattle.hcc_rule.specs.Views.{named_by}
 use Rattle.hcc_rule.specs.Records.{weight_on}
+use Rattle.hcc_rule.specs.Rule.{list_weighs}
 use Rattle.hcc_rule.proofs.Basics.Lists.{there, within}
 use Rattle.hcc_rule.proofs.Entries.ShowParts.{get_front}
 use Rattle.hcc_shard.specs.declared.entries.ClosedShard.{ClosedShard}
@@ -35,7 +36,7 @@ use Rattle.hcc_cache.proofs.Endings.WithoutHandles.{holds_nothing}
 use Rattle.hcc_cache.proofs.Endings.JoinedSeats.{all_named, from_view, views_count, views_same}
 use Rattle.hcc_cache.proofs.Basics.Lists.{get_in_take, get_push, get_reverse, get_take}
 use Rattle.hcc_cache.proofs.Endings.MostKnown.{known_back}
-use Rattle.hcc_cache.proofs.Endings.JoinedMadeLists.{gone_joined, made_count, made_joined, made_weighs, records_joined, takings_joined}
+use Rattle.hcc_cache.proofs.Endings.JoinedMadeLists.{gone_joined, made_joined, made_weighs, records_joined, takings_joined}
 
 -- the number of the shard that was closed as number j
 abbrev index_of : {T : Type 0} → Cache T → (j : ℕ) → ℕ
@@ -390,7 +391,7 @@ module _ {T : Type 0} (fits : T → Key → List ℕ → Type 0) (cache : Cache 
           let shard = there cache.shards.items s (omega arith) in
           let views = views_count s old in
           let takings = takings_joined (views_at s old) (omega arith) in
-          let made = made_count (views_at s old) (omega arith)
+          let made = made_weighs (λ c l. length l) (views_at s old) (omega arith)
           (λ k w hw. (views_single s shard.0 shard.1 k w hw).3) in
           let left_is = (left_of s left (rw same at h)).closes.left in
           omega arith;
@@ -400,7 +401,7 @@ module _ {T : Type 0} (fits : T → Key → List ℕ → Type 0) (cache : Cache 
           let shard = there cache.shards.items s (omega arith) in
           let views = views_count s old in
           let gone = gone_joined h (views_at s old) (omega arith) in
-          let made = made_weighs h (views_at s old) (omega arith)
+          let made = made_weighs (λ c l. list_weighs h c 0 l) (views_at s old) (omega arith)
           (λ k w hw. (views_single s shard.0 shard.1 k w hw).3) in
           let left_is = (left_of s left (rw same at found)).closes.weighed h in
           omega arith;

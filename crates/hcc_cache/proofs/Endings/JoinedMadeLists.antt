@@ -12,7 +12,7 @@ use Rattle.hcc_rule.specs.declared.view.Other.{Other}
 use Rattle.hcc_rule.specs.declared.view.View.{View}
 use Rattle.hcc_rule.specs.Closing.{list_by, made_by}
 use Rattle.hcc_rule.specs.Passing.{as_other, joined_view}
-use Rattle.hcc_rule.specs.Rule.{list_weighs, taken_weigh}
+use Rattle.hcc_rule.specs.Rule.{taken_weigh}
 use Rattle.hcc_cache.specs.Closings.{all_joined, joined_views}
 
 module _ {T : Type 0} where
@@ -94,61 +94,43 @@ module _ {T : Type 0} where
   records_joined (w ∷ ws) v h =
       let same : w ≡ v = cc in joined_records w ws ∙ ap (λ (x : View T). x.records) same
 
-  joined_takings : (v : View T) (vs : List (View T))
-      → (joined_views v vs).takings ≡ v.takings + total (λ (w : View T). w.takings) vs
-  joined_takings v [] = omega arith
-  joined_takings v (w ∷ ws) = let rest = joined_takings (joined_view v w) ws in omega arith
+  -- A count of views that a joining adds up is of the joined view what it is of all views.
+  sum_joined : (f : View T → ℕ) → ((v w : View T) → f (joined_view v w) ≡ f v + f w)
+      → (vs : List (View T)) → 1 ≤ length vs → f (all_joined vs) ≡ total f vs
+  sum_joined f both [] some = absurd (omega arith)
+  sum_joined f both (v ∷ vs) some = by v vs
+    where
+      by : (v : View T) (vs : List (View T)) → f (joined_views v vs) ≡ f v + total f vs
+      by v [] = omega arith
+      by v (w ∷ ws) =
+          let rest = by (joined_view v w) ws in
+          let first = both v w in
+          omega (arith, rest, first)
 
   -- The joined view took as much as all views.
   pub takings_joined : (vs : List (View T)) → 1 ≤ length vs
       → (all_joined vs).takings ≡ total (λ (w : View T). w.takings) vs
-  takings_joined [] some = absurd (omega arith)
-  takings_joined (v ∷ vs) some = joined_takings v vs
-
-  joined_gone : (h : Stamp → ℕ) (v : View T) (vs : List (View T))
-      → taken_weigh h (joined_views v vs).gone
-      ≡ taken_weigh h v.gone + total (λ (w : View T). taken_weigh h w.gone) vs
-  joined_gone h v [] = omega arith
-  joined_gone h v (w ∷ ws) =
-      let rest = joined_gone h (joined_view v w) ws in
-      let both = total-append (λ (g : Gone). h g.stamp) v.gone w.gone in
-      omega arith
+  takings_joined = sum_joined (λ w. w.takings) (λ v w. refl)
 
   -- What it took weighs as much as what all views took.
   pub gone_joined : (h : Stamp → ℕ) (vs : List (View T)) → 1 ≤ length vs
       → taken_weigh h (all_joined vs).gone ≡ total (λ (w : View T). taken_weigh h w.gone) vs
-  gone_joined h [] some = absurd (omega arith)
-  gone_joined h (v ∷ vs) some = joined_gone h v vs
+  gone_joined h =
+      sum_joined (λ w. taken_weigh h w.gone) (λ v w. total-append (λ (g : Gone). h g.stamp) v.gone w.gone)
 
-  others_total : (vs : List (View T))
-      → total (λ (o : Other). length o.made) (map as_other vs)
-      ≡ total (λ (w : View T). length w.made) vs
-  others_total [] = refl
-  others_total (w ∷ ws) = let rest = others_total ws in omega arith
+  others_total : (f : ℕ → List Made → ℕ) (vs : List (View T))
+      → total (λ (o : Other). f o.client o.made) (map as_other vs)
+      ≡ total (λ (w : View T). f w.client w.made) vs
+  others_total f [] = refl
+  others_total f (w ∷ ws) = let rest = others_total f ws in omega arith
 
-  -- It names as much as made as all views.
-  pub made_count : (vs : List (View T)) → 1 ≤ length vs → AreSingle vs
-      → length (all_joined vs).made + total (λ (o : Other). length o.made) (all_joined vs).others
-      ≡ total (λ (w : View T). length w.made) vs
-  made_count [] some single = absurd (omega arith)
-  made_count (v ∷ vs) some single =
+  -- What it names as made weighs as much as what all views made, however that is weighed.
+  pub made_weighs : (f : ℕ → List Made → ℕ) (vs : List (View T)) → 1 ≤ length vs → AreSingle vs
+      → f (all_joined vs).client (all_joined vs).made
+      + total (λ (o : Other). f o.client o.made) (all_joined vs).others
+      ≡ total (λ (w : View T). f w.client w.made) vs
+  made_weighs f [] some single = absurd (omega arith)
+  made_weighs f (v ∷ vs) some single =
       let same = joined_same v vs in
-      let sum = others_total vs in
-      rw (same.1, others_after v vs single) (omega arith)
-
-  others_weigh : (h : Stamp → ℕ) (vs : List (View T))
-      → total (λ (o : Other). list_weighs h o.client 0 o.made) (map as_other vs)
-      ≡ total (λ (w : View T). list_weighs h w.client 0 w.made) vs
-  others_weigh h [] = refl
-  others_weigh h (w ∷ ws) = let rest = others_weigh h ws in omega arith
-
-  -- What it names as made weighs as much as what all views made.
-  pub made_weighs : (h : Stamp → ℕ) (vs : List (View T)) → 1 ≤ length vs → AreSingle vs
-      → list_weighs h (all_joined vs).client 0 (all_joined vs).made
-      + total (λ (o : Other). list_weighs h o.client 0 o.made) (all_joined vs).others
-      ≡ total (λ (w : View T). list_weighs h w.client 0 w.made) vs
-  made_weighs h [] some single = absurd (omega arith)
-  made_weighs h (v ∷ vs) some single =
-      let same = joined_same v vs in
-      let sum = others_weigh h vs in
+      let sum = others_total f vs in
       rw (same.0, same.1, others_after v vs single) (omega arith)

@@ -6,7 +6,7 @@ use Rattle.std.specs.declared.alloc.Global.{Global}
 use Rattle.hcc_word.specs.Word.{releases_of}
 use Rattle.hcc_core.specs.declared.limits.TheConstants.{MOST_USES}
 use Rattle.hcc_core.specs.Sums.{total, when}
-use Rattle.hcc_core.proofs.SumLemmas.{total-append}
+use Rattle.hcc_core.proofs.SumLemmas.{total-append, total-nothing}
 use Rattle.hcc_rule.specs.declared.geometry.Geometry.{Geometry}
 use Rattle.hcc_rule.specs.declared.key.Key.{Key}
 use Rattle.hcc_rule.specs.declared.layout.TheConstants.{CHARGE, KEY0, KEY1}
@@ -15,7 +15,6 @@ use Rattle.hcc_rule.specs.Closing.{data_at, has_entry, key_at, meta_at, over_ent
 use Rattle.hcc_rule.specs.Views.{Each}
 use Rattle.hcc_rule.proofs.Basics.Lists.{there, within}
 use Rattle.hcc_rule.proofs.Images.Fillings.{each_get}
-use Rattle.hcc_rule.proofs.Parts.Clients.{total-nothing}
 use Rattle.hcc_shard.specs.declared.entries.ClosedShard.{ClosedShard}
 use Rattle.hcc_shard.specs.Callers.{view_of}
 use Rattle.hcc_shard.specs.Imaged.{is_shown}

@@ -13,7 +13,7 @@ use Rattle.hcc_core.specs.Opening.{new_slot}
 use Rattle.hcc_core.specs.Sums.{total, when}
 use Rattle.hcc_core.specs.World.{State}
 use Rattle.hcc_core.proofs.ListLemmas.{replicate_is}
-use Rattle.hcc_core.proofs.SumLemmas.{total-zero}
+use Rattle.hcc_core.proofs.SumLemmas.{total-zero, total-nothing}
 use Rattle.hcc_rule.specs.declared.geometry.Geometry.{Geometry}
 use Rattle.hcc_rule.specs.declared.image.ImageEntry.{ImageEntry}
 use Rattle.hcc_rule.specs.declared.key.Key.{Key}
@@ -28,7 +28,6 @@ use Rattle.hcc_rule.specs.Views.{Each}
 use Rattle.hcc_rule.proofs.Basics.Lists.{each_map, there, within}
 use Rattle.hcc_rule.specs.Words.{key_of}
 use Rattle.hcc_rule.proofs.Images.Fillings.{filled_total}
-use Rattle.hcc_rule.proofs.Parts.Clients.{total-nothing}
 use Rattle.hcc_rule.proofs.LastSeat.ClosingSums.{one_at, total_both, total_range}
 use Rattle.hcc_shard.specs.declared.entries.ClosedShard.{ClosedShard}
 use Rattle.hcc_shard.specs.Callers.{plan_of}

@@ -17,6 +17,7 @@ use Rattle.hcc_core.specs.declared.slot.Stamp.{Stamp}
 use Rattle.hcc_core.specs.Sums.{when, total}
 use Rattle.hcc_core.specs.World.{taken_by_slot, charge_of, charged_to, occupied_by, standing_of, trail_of, times, is_shareable as slot_has_entry}
 use Rattle.hcc_core.specs.Lawful.{Lawful, owned_by, owner_in}
+use Rattle.hcc_core.proofs.SumLemmas.{total-nothing}
 use Rattle.hcc_rule.specs.declared.key.Key.{Key}
 use Rattle.hcc_rule.specs.declared.layout.TheConstants.{CHARGE, HAND}
 use Rattle.hcc_rule.specs.declared.rule.Plan.{Plan}
@@ -31,7 +32,7 @@ use Rattle.hcc_rule.specs.Views.{is_seated, held, Each}
 use Rattle.hcc_rule.specs.Records.{weight_on}
 use Rattle.hcc_rule.specs.Words.{ledger_at}
 use Rattle.hcc_rule.proofs.Parts.Addresses.{data_field}
-use Rattle.hcc_rule.proofs.Parts.Clients.{total-nothing, total-only}
+use Rattle.hcc_rule.proofs.Parts.Clients.{total-only}
 use Rattle.hcc_rule.proofs.LastSeat.ClosingClients.{IsQuiet, made_of, lawful, client_count, slot_count, spent, known, book_known}
 use Rattle.hcc_rule.proofs.LastSeat.ClosingSums.{total_range, total_both, one_at, given_by_client, books_range}
 use Rattle.hcc_rule.proofs.Parts.Codes.{few_strays, is_near, tells_entry}

@@ -6,12 +6,11 @@ use Rattle.std.specs.List.{range_with_len}
 use Rattle.std.proofs.lemmas.Bool.{eq-eqb}
 use Rattle.hcc_core.specs.declared.slot.Stamp.{Stamp}
 use Rattle.hcc_core.specs.Sums.{when, total}
-use Rattle.hcc_core.proofs.SumLemmas.{total-member}
+use Rattle.hcc_core.proofs.SumLemmas.{total-member, total-nothing}
 use Rattle.hcc_rule.specs.declared.view.Made.{Made}
 use Rattle.hcc_rule.specs.declared.view.Other.{Other}
 use Rattle.hcc_rule.specs.Rule.{Books, books_weigh, list_weighs}
 use Rattle.hcc_rule.specs.Views.{Each}
-use Rattle.hcc_rule.proofs.Parts.Clients.{total-nothing}
 
 -- the sum over a list is the sum over its indices
 range_from : {A : Type 0} (f : A → ℕ) (g : ℕ → ℕ) (xs : List A) (a : ℕ)

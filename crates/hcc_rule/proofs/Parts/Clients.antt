@@ -12,6 +12,7 @@ use Rattle.hcc_core.specs.Sums.{when, total}
 use Rattle.hcc_core.specs.World.{State, references_of, has_client}
 use Rattle.hcc_core.specs.Lawful.{Lawful}
 use Rattle.hcc_core.specs.References.{dead_to}
+use Rattle.hcc_core.proofs.SumLemmas.{total-nothing}
 use Rattle.hcc_rule.specs.declared.view.Record.{Record}
 use Rattle.hcc_rule.specs.declared.view.View.{View}
 use Rattle.hcc_rule.specs.Words.{code_of}
@@ -25,15 +26,6 @@ use Rattle.hcc_rule.proofs.Parts.ViewParts.{unnamed, seated_else}
 -- 1 for a reference of this client
 abbrev pub by_client : ℕ → Reference → ℕ
 by_client c k = when (k.client == c) 1
-
--- a sum of nothing
-pub total-nothing : {A : Type 0} (f : A → ℕ) (xs : List A)
-    → ((i : ℕ) (x : A) → slice_get xs i ≡ Some x → f x ≡ 0) → total f xs ≡ 0
-total-nothing f [] h = refl
-total-nothing f (x ∷ xs) h =
-    let first = h 0 x refl in
-    let rest = total-nothing f xs (λ i y at. h (suc i) y at) in
-    omega arith
 
 -- a sum of one member and nothing else
 pub total-only : {A : Type 0} (f : A → ℕ) (xs : List A) (i : ℕ) (x : A) → slice_get xs i ≡ Some x

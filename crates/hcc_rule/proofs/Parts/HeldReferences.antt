@@ -6,13 +6,14 @@ use Rattle.hcc_core.specs.declared.slot.Reference.{Reference}
 use Rattle.hcc_core.specs.declared.slot.Slot.{Slot}
 use Rattle.hcc_core.specs.Sums.{when, total}
 use Rattle.hcc_core.specs.World.{references_of, is_named, reference_in, has_reference, slot_holding}
+use Rattle.hcc_core.proofs.SumLemmas.{total-nothing}
 use Rattle.hcc_rule.specs.declared.view.Record.{Record}
 use Rattle.hcc_rule.specs.declared.view.View.{View}
 use Rattle.hcc_rule.specs.Views.{reference_of, is_on, is_called, times_called, is_seated, held}
 use Rattle.hcc_rule.specs.Records.{record_in}
 use Rattle.hcc_rule.specs.Rule.{Books, References, Seats}
 use Rattle.hcc_rule.proofs.Parts.ViewParts.{unnamed, seated_else}
-use Rattle.hcc_rule.proofs.Parts.Clients.{total-nothing, total-only}
+use Rattle.hcc_rule.proofs.Parts.Clients.{total-only}
 use Rattle.hcc_rule.proofs.Basics.Findings.{total-same, when_zero, when_swap, when_same, find_passes, none_weighs, one_weighs, none_passes, some_found, some_any, none_any, position_is, position_none}
 
 -- references of the same fields are one
