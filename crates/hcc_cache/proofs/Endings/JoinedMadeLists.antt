@@ -116,7 +116,8 @@ module _ {T : Type 0} where
   pub gone_joined : (h : Stamp → ℕ) (vs : List (View T)) → 1 ≤ length vs
       → taken_weigh h (all_joined vs).gone ≡ total (λ (w : View T). taken_weigh h w.gone) vs
   gone_joined h =
-      sum_joined (λ w. taken_weigh h w.gone) (λ v w. total-append (λ (g : Gone). h g.stamp) v.gone w.gone)
+      sum_joined (λ w. taken_weigh h w.gone)
+      (λ v w. total-append (λ (g : Gone). h g.stamp) v.gone w.gone)
 
   others_total : (f : ℕ → List Made → ℕ) (vs : List (View T))
       → total (λ (o : Other). f o.client o.made) (map as_other vs)
