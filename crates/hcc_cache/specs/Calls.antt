@@ -16,7 +16,8 @@ use Rattle.hcc_charge.specs.Settled.{fallen}
 use Rattle.hcc_shard.specs.declared.seat.ShardSeat.{ShardSeat}
 use Rattle.hcc_shard.specs.declared.shard.Shard.{Shard}
 use Rattle.hcc_shard.specs.declared.seat.Stats.{Stats}
-use Rattle.hcc_shard.specs.Callers.{AcquiresAt, ErasesAt, GivesBackAt, SearchesAt, steps_of}
+use Rattle.hcc_table.specs.Lists.{Hands, Shelf}
+use Rattle.hcc_shard.specs.Callers.{AcquiresAt, ErasesAt, GivesBackAt, SearchesAt, steps_of, view_of}
 use Rattle.hcc_shard.specs.Counted.{SameEvictions, stats_of}
 use Rattle.hcc_shard.specs.Referred.{IsErasedAll, IsReleased}
 use Rattle.hcc_cache.specs.declared.cache.Cache.{Cache}
@@ -154,12 +155,23 @@ module _ {T : Type 0} (cache : Cache T) where
       × SearchesAt (fits_seeded fits) shard (key_to cache.seed key) old.used pin was is)
       (shard_in key) old new
 
-  -- The key was erased in its shard: what was found and hidden at each probe, so many in all.
+  -- The key was erased in its shard: what was found and hidden at each probe, so many in all, where
+  -- the list of what is freed has room in the end, or not.
+  abbrev pub ErasesListed : (fits : T → Key → List ℕ → Type 0) → Key → (room : Bool)
+      → (hidden : ℕ) → (old new : Client T) → Type 0
+  ErasesListed fits key room hidden old new =
+      AtShard (λ shard was is. ErasesAt (fits_seeded fits) shard (key_to cache.seed key) room hidden
+      was is) (shard_in key) old new
+
+  -- the same where nothing is put on a list
   abbrev pub ErasesFor : (fits : T → Key → List ℕ → Type 0) → Key → (hidden : ℕ)
       → (old new : Client T) → Type 0
-  ErasesFor fits key hidden old new =
-      AtShard (λ shard was is. ErasesAt (fits_seeded fits) shard (key_to cache.seed key) hidden was
-      is) (shard_in key) old new
+  ErasesFor fits key hidden old new = ErasesListed fits key true hidden old new
+
+  -- What the client took in a shard was put on the list, in order.
+  abbrev pub HandsAt : (s t : Option Shelf) → (number : ℕ) → (old new : Client T) → Type 0
+  HandsAt s t number old new =
+      AtShard (λ shard was is. Hands s t (view_of was) (view_of is)) number old new
 
   -- Handles other than this one stand for what they stood for.
   abbrev pub KeepsBut : Handle → (old new : Client T) → Type 0
@@ -270,8 +282,9 @@ module _ {T : Type 0} (cache : Cache T) where
     pub released : ReleasedOf handle.serial erase freed held.standing v w
     pub loses : Loses handle old new
 
-  -- The client gave a reference at this slot of this shard back, as a use or not.
-  pub record GivesBackIn (shard slot : ℕ) (used erase freed : Bool) (old new : Client T)
+  -- The client gave a reference at this slot of this shard back, as a use or not, where the list of
+  -- what is freed had room or not.
+  pub record GivesBackIn (shard slot : ℕ) (room used erase freed : Bool) (old new : Client T)
       : Type 0 where
     pub there : Shard (Seeded T) _
     pub was : ShardSeat (Seeded T)
@@ -279,7 +292,7 @@ module _ {T : Type 0} (cache : Cache T) where
     pub shard_is : slice_get cache.shards.items shard ≡ Some there
     pub before : slice_get old.seats.items shard ≡ Some was
     pub later : slice_get new.seats.items shard ≡ Some is
-    pub gives : GivesBackAt there slot used erase freed was is
+    pub gives : GivesBackAt there slot room used erase freed was is
 
   -- The reference of a handle on an entry of the table was given back at the entry's slot: as a use
   -- just where the release was useful and the reference counts.
@@ -287,7 +300,7 @@ module _ {T : Type 0} (cache : Cache T) where
   GivesUp handle useful erase freed old new =
       (hold : Hold) (slot : ℕ) (counting : Bool) → hold_of old handle ≡ Some hold
       → hold.kept ≡ Pinned slot counting
-      → GivesBackIn hold.shard slot (useful && counting) erase freed old new
+      → GivesBackIn hold.shard slot true (useful && counting) erase freed old new
 
   -- The client read what it holds.
   pub record Reads (old new : Client T) : Type 0 where

@@ -13,6 +13,7 @@ use Rattle.hcc_rule.specs.Words.{key_of}
 use Rattle.hcc_table.specs.declared.pins.Pin.{Pin}
 use Rattle.hcc_shard.specs.declared.seat.ShardSeat.{ShardSeat}
 use Rattle.hcc_shard.specs.Callers.{view_of}
+use Rattle.hcc_cache.specs.Alones.{bytes_of}
 use Rattle.hcc_cache.specs.declared.cache.Cache.{Cache}
 use Rattle.hcc_cache.specs.declared.client.Client.{Client}
 use Rattle.hcc_cache.specs.declared.handle.Handle.{Handle}
@@ -67,7 +68,7 @@ held_entry seed e = record {
 -- a standalone entry of this key
 abbrev pub held_alone : Key → Alone → Held
 held_alone key alone = record {
-  insertion = record { key = key; value = alone.value.items; charge = alone.charge };
+  insertion = record { key = key; value = bytes_of alone.value; charge = alone.charge };
   entry = None;
   standing = Some alone.name;
 }

@@ -1,5 +1,5 @@
 -- What an insertion leaves of a client.
-use Rattle.std.specs.Prelude.{◌≡◌, ℕ, List, Option, Some, None, Result, Ok, Err}
+use Rattle.std.specs.Prelude.{◌≡◌, ℕ, Bool, List, Option, Some, None, Result, Ok, Err, true}
 use Rattle.std.specs.declared.alloc.Global.{Global}
 use Rattle.hcc_rule.specs.declared.key.Key.{Key}
 use Rattle.hcc_rule.specs.declared.steps.shows.Draft.{Draft}
@@ -70,42 +70,52 @@ module _ {T : Type 0} (cache : Cache T) (key : Key) (charge : ℕ) (priority : P
   }
 
   module _ (value : List ℕ) where
-    -- the shard of the key was asked for an entry without a reference, and answered this
-    pub record Stores (answer : Result Stored Refused) (old new : Client T) : Type 0 where
+    -- The shard of the key was asked for an entry without a reference, and answered this. The list
+    -- of what is freed had room for a turn of the hand before, and has behind it, or not.
+    pub record StoresListed (had has : Bool) (answer : Result Stored Refused) (old new : Client T)
+        : Type 0 where
       pub v : View (Seeded T)
       pub w : View (Seeded T)
       pub works : Works (shard_in cache key) old new v w
-      pub told : InsertedBy cache.geometry.slots cache.capacity cache.strict
+      pub told : InsertedBy had has cache.geometry.slots cache.capacity cache.strict
           (draft_of (λ c. None) old) value answer v w
       pub keeps : KeepsHandles cache old new
 
     -- What an insertion leaves, by its answer.
+    abbrev pub InsertsListed : (had has : Bool) → Result Inserted InsertError
+        → (old new : Client T) → Type 0
+    InsertsListed had has (Ok Placed) old new = StoresListed had has (Ok stored.Placed) old new
+    InsertsListed had has (Ok Dropped) old new = StoresListed had has (Ok stored.Dropped) old new
+    InsertsListed had has (Ok Standalone) old new = ⊥
+    InsertsListed had has (Err HandlesFull) old new = ⊥
+    InsertsListed had has (Err Spent) old new = new ≡ old
+    InsertsListed had has (Err TooLarge) old new = new ≡ old
+    InsertsListed had has (Err CapacityFull) old new =
+        StoresListed had has (Err refused.CapacityFull) old new
+    InsertsListed had has (Err OccupancyFull) old new =
+        StoresListed had has (Err refused.OccupancyFull) old new
+
+    -- the same where nothing is put on a list
     abbrev pub Inserts : Result Inserted InsertError → (old new : Client T) → Type 0
-    Inserts (Ok Placed) old new = Stores (Ok stored.Placed) old new
-    Inserts (Ok Dropped) old new = Stores (Ok stored.Dropped) old new
-    Inserts (Ok Standalone) old new = ⊥
-    Inserts (Err HandlesFull) old new = ⊥
-    Inserts (Err Spent) old new = new ≡ old
-    Inserts (Err TooLarge) old new = new ≡ old
-    Inserts (Err CapacityFull) old new = Stores (Err refused.CapacityFull) old new
-    Inserts (Err OccupancyFull) old new = Stores (Err refused.OccupancyFull) old new
+    Inserts answer old new = InsertsListed true true answer old new
 
     -- the draft of an entry that keeps a reference, named by its serial
     abbrev pub pinned_draft : Client T → Draft
     pinned_draft client = draft_of (λ c. Some c.used) client
 
     -- The shard was asked for an entry with a reference, and answered this.
-    pub record AsksPinned (answer : Result Pinned Refused) (old new : Client T) : Type 0 where
+    pub record AsksPinned (had has : Bool) (answer : Result Pinned Refused) (old new : Client T) :
+        Type 0 where
       pub v : View (Seeded T)
       pub w : View (Seeded T)
       pub works : Works (shard_in cache key) old new v w
-      pub told : PinnedBy cache.geometry.slots cache.capacity cache.strict
+      pub told : PinnedBy had has cache.geometry.slots cache.capacity cache.strict
           (pinned_draft old) value answer v w
 
     -- The entry was placed in a slot of the table, and the handle is on it.
-    pub record Pins (handle : Handle) (old new : Client T) : Type 0 where
+    pub record Pins (had has : Bool) (handle : Handle) (old new : Client T) : Type 0 where
       pub pin : Pin
-      pub asks : AsksPinned (Ok (pinned.Placed pin)) old new
+      pub asks : AsksPinned had has (Ok (pinned.Placed pin)) old new
       pub gains : Gains cache handle (record {
         insertion = record { key = key; value = value; charge = charge };
         entry = Some (shown_entry asks.v (made_of (pinned_draft old) value));
@@ -113,8 +123,8 @@ module _ {T : Type 0} (cache : Cache T) (key : Key) (charge : ℕ) (priority : P
       }) old new
 
     -- It stands alone, and the handle is on it.
-    pub record Stands (handle : Handle) (old new : Client T) : Type 0 where
-      pub asks : AsksPinned (Ok pinned.Standalone) old new
+    pub record Stands (had has : Bool) (handle : Handle) (old new : Client T) : Type 0 where
+      pub asks : AsksPinned had has (Ok pinned.Standalone) old new
       pub gains : Gains cache handle (record {
         insertion = record { key = key; value = value; charge = charge };
         entry = None;
@@ -122,63 +132,98 @@ module _ {T : Type 0} (cache : Cache T) (key : Key) (charge : ℕ) (priority : P
       }) old new
 
     -- The shard refused it, and a serial was used.
-    pub record Fails (why : Refused) (old new : Client T) : Type 0 where
-      pub asks : AsksPinned (Err why) old new
+    pub record Fails (had has : Bool) (why : Refused) (old new : Client T) : Type 0 where
+      pub asks : AsksPinned had has (Err why) old new
       pub keeps : KeepsHandles cache old new
 
     -- What an insertion with a handle leaves, by its answer.
+    abbrev pub InsertsWithListed : (had has : Bool) → Handle → Inserted → (old new : Client T)
+        → Type 0
+    InsertsWithListed had has handle Placed old new = Pins had has handle old new
+    InsertsWithListed had has handle Dropped old new = ⊥
+    InsertsWithListed had has handle Standalone old new = Stands had has handle old new
+
+    abbrev pub RefusesWithListed : (had has : Bool) → InsertError → (old new : Client T) → Type 0
+    RefusesWithListed had has HandlesFull old new = new ≡ old
+    RefusesWithListed had has Spent old new = new ≡ old
+    RefusesWithListed had has TooLarge old new = new ≡ old
+    RefusesWithListed had has CapacityFull old new = Fails had has refused.CapacityFull old new
+    RefusesWithListed had has OccupancyFull old new = Fails had has refused.OccupancyFull old new
+
+    -- the same where nothing is put on a list
     abbrev pub InsertsWith : Handle → Inserted → (old new : Client T) → Type 0
-    InsertsWith handle Placed old new = Pins handle old new
-    InsertsWith handle Dropped old new = ⊥
-    InsertsWith handle Standalone old new = Stands handle old new
+    InsertsWith handle answer old new = InsertsWithListed true true handle answer old new
 
     abbrev pub RefusesWith : InsertError → (old new : Client T) → Type 0
-    RefusesWith HandlesFull old new = new ≡ old
-    RefusesWith Spent old new = new ≡ old
-    RefusesWith TooLarge old new = new ≡ old
-    RefusesWith CapacityFull old new = Fails refused.CapacityFull old new
-    RefusesWith OccupancyFull old new = Fails refused.OccupancyFull old new
+    RefusesWith why old new = RefusesWithListed true true why old new
 
 -- What an insertion did at the shard of its key, told of the client's seat there: what it evicted,
 -- for what it asked, how the counts rose, and where the entry is or why it is nowhere.
 module _ {T : Type 0} (cache : Cache T) (fits : T → Key → List ℕ → Type 0) (key : Key) (charge : ℕ)
     (priority : Priority) where
-  abbrev pub StoresAt : Result Stored Refused → (old new : Client T) → Type 0
-  StoresAt answer old new =
+  abbrev pub StoresAtListed : (had has : Bool) → Result Stored Refused → (old new : Client T)
+      → Type 0
+  StoresAtListed had has answer old new =
       AtShard cache (λ shard was is. InsertedAs (fits_seeded fits) shard
-      (draft_of cache key charge priority (λ c. None) old) answer was is)
+      (draft_of cache key charge priority (λ c. None) old) had has answer was is)
       (shard_in cache key) old new
+
+  -- the same where nothing is put on a list
+  abbrev pub StoresAt : Result Stored Refused → (old new : Client T) → Type 0
+  StoresAt answer old new = StoresAtListed true true answer old new
 
   -- an insertion, by its answer
-  abbrev pub InsertsAt : Result Inserted InsertError → (old new : Client T) → Type 0
-  InsertsAt (Ok Placed) old new = StoresAt (Ok stored.Placed) old new
-  InsertsAt (Ok Dropped) old new = StoresAt (Ok stored.Dropped) old new
-  InsertsAt (Ok Standalone) old new = ⊥
-  InsertsAt (Err HandlesFull) old new = ⊥
-  InsertsAt (Err Spent) old new = new ≡ old
-  InsertsAt (Err TooLarge) old new = new ≡ old
-  InsertsAt (Err CapacityFull) old new = StoresAt (Err refused.CapacityFull) old new
-  InsertsAt (Err OccupancyFull) old new = StoresAt (Err refused.OccupancyFull) old new
+  abbrev pub InsertsAtListed : (had has : Bool) → Result Inserted InsertError
+      → (old new : Client T) → Type 0
+  InsertsAtListed had has (Ok Placed) old new = StoresAtListed had has (Ok stored.Placed) old new
+  InsertsAtListed had has (Ok Dropped) old new = StoresAtListed had has (Ok stored.Dropped) old new
+  InsertsAtListed had has (Ok Standalone) old new = ⊥
+  InsertsAtListed had has (Err HandlesFull) old new = ⊥
+  InsertsAtListed had has (Err Spent) old new = new ≡ old
+  InsertsAtListed had has (Err TooLarge) old new = new ≡ old
+  InsertsAtListed had has (Err CapacityFull) old new =
+      StoresAtListed had has (Err refused.CapacityFull) old new
+  InsertsAtListed had has (Err OccupancyFull) old new =
+      StoresAtListed had has (Err refused.OccupancyFull) old new
 
-  abbrev pub PinsAt : Result Pinned Refused → (old new : Client T) → Type 0
-  PinsAt answer old new =
+  abbrev pub InsertsAt : Result Inserted InsertError → (old new : Client T) → Type 0
+  InsertsAt answer old new = InsertsAtListed true true answer old new
+
+  abbrev pub PinsAtListed : (had has : Bool) → Result Pinned Refused → (old new : Client T)
+      → Type 0
+  PinsAtListed had has answer old new =
       AtShard cache (λ shard was is. PinnedAs (fits_seeded fits) shard
-      (draft_of cache key charge priority (λ c. Some c.used) old) answer was is)
+      (draft_of cache key charge priority (λ c. Some c.used) old) had has answer was is)
       (shard_in cache key) old new
 
+  -- the same where nothing is put on a list
+  abbrev pub PinsAt : Result Pinned Refused → (old new : Client T) → Type 0
+  PinsAt answer old new = PinsAtListed true true answer old new
+
   -- one that gives a handle
+  abbrev pub InsertsPinnedAtListed : (had has : Bool) → Inserted → (old new : Client T) → Type 0
+  InsertsPinnedAtListed had has Placed old new =
+      (pin : Pin) × PinsAtListed had has (Ok (pinned.Placed pin)) old new
+  InsertsPinnedAtListed had has Dropped old new = ⊥
+  InsertsPinnedAtListed had has Standalone old new =
+      PinsAtListed had has (Ok pinned.Standalone) old new
+
   abbrev pub InsertsPinnedAt : Inserted → (old new : Client T) → Type 0
-  InsertsPinnedAt Placed old new = (pin : Pin) × PinsAt (Ok (pinned.Placed pin)) old new
-  InsertsPinnedAt Dropped old new = ⊥
-  InsertsPinnedAt Standalone old new = PinsAt (Ok pinned.Standalone) old new
+  InsertsPinnedAt answer old new = InsertsPinnedAtListed true true answer old new
 
   -- and one that is refused
+  abbrev pub RefusesPinnedAtListed : (had has : Bool) → InsertError → (old new : Client T)
+      → Type 0
+  RefusesPinnedAtListed had has HandlesFull old new = new ≡ old
+  RefusesPinnedAtListed had has Spent old new = new ≡ old
+  RefusesPinnedAtListed had has TooLarge old new = new ≡ old
+  RefusesPinnedAtListed had has CapacityFull old new =
+      PinsAtListed had has (Err refused.CapacityFull) old new
+  RefusesPinnedAtListed had has OccupancyFull old new =
+      PinsAtListed had has (Err refused.OccupancyFull) old new
+
   abbrev pub RefusesPinnedAt : InsertError → (old new : Client T) → Type 0
-  RefusesPinnedAt HandlesFull old new = new ≡ old
-  RefusesPinnedAt Spent old new = new ≡ old
-  RefusesPinnedAt TooLarge old new = new ≡ old
-  RefusesPinnedAt CapacityFull old new = PinsAt (Err refused.CapacityFull) old new
-  RefusesPinnedAt OccupancyFull old new = PinsAt (Err refused.OccupancyFull) old new
+  RefusesPinnedAt why old new = RefusesPinnedAtListed true true why old new
 
 -- What an insertion left of what is shown, in the worlds that its client knows of the key's shard:
 -- when its reservation had ended, with its eviction, and when the entry was placed or left out.
@@ -198,7 +243,7 @@ module _ {T : Type 0} (fits : T → Key → List ℕ → Type 0) (shard : Shard 
 
   -- by the answer
   abbrev pub ShowsAs : (answer : Result Stored Refused) (old new : ShardSeat (Seeded T))
-      → InsertedAs (fits_seeded fits) shard draft answer old new → Type 0
+      → InsertedAs (fits_seeded fits) shard draft true true answer old new → Type 0
   ShowsAs (Ok stored.Placed) old new did =
       ShowsFrom did.1.reserves.reserved did.1.tries.done (insertions.Placed did.0)
   ShowsAs (Ok stored.Dropped) old new did =
@@ -208,7 +253,7 @@ module _ {T : Type 0} (fits : T → Key → List ℕ → Type 0) (shard : Shard 
 
   -- of one that keeps a reference
   abbrev pub ShowsPinnedAs : (answer : Result Pinned Refused) (old new : ShardSeat (Seeded T))
-      → PinnedAs (fits_seeded fits) shard draft answer old new → Type 0
+      → PinnedAs (fits_seeded fits) shard draft true true answer old new → Type 0
   ShowsPinnedAs (Ok (pinned.Placed pin)) old new did =
       ShowsFrom did.reserves.reserved did.tries.done (insertions.Placed pin.slot)
   ShowsPinnedAs (Ok pinned.Standalone) old new did =

@@ -1,5 +1,6 @@
 pub mod Configs
 pub mod Priorities
+pub mod Alones
 pub mod Keys
 pub mod Sharding
 pub mod Clients
@@ -8,6 +9,7 @@ pub mod Known
 pub mod Opened
 pub mod Moments
 pub mod Calls
+pub mod Gone
 pub mod Left
 pub mod Closings
 pub mod Ended

@@ -1,5 +1,5 @@
 -- An insertion that evicts nothing, as where there is room for its entry, in a cache of one client.
-use Rattle.std.specs.Prelude.{◌≡◌, ℕ, ◌+◌, ◌-◌, ◌*◌, ◌/◌, ◌<◌, ◌≤◌, List, Result, Ok, Err, length}
+use Rattle.std.specs.Prelude.{◌≡◌, ℕ, ◌+◌, ◌-◌, ◌*◌, ◌/◌, ◌<◌, ◌≤◌, List, Result, Ok, Err, length, true}
 use Rattle.std.specs.declared.alloc.Global.{Global}
 use Rattle.hcc_core.specs.declared.limits.TheConstants.{OCCUPANCY_PERCENT}
 use Rattle.hcc_core.specs.World.{State, occupancy_of, standing_of, usage_of}
@@ -54,7 +54,7 @@ module _ {T : Type 0} (shard : Shard (Seeded T) Global) (draft : Draft) where
     -- Such an insertion by its answer: a place was reserved, and refused is only a charge above a
     -- strict capacity, before anything was done.
     abbrev pub KeepsAs : (answer : Result Inserted Refused) (old new : ShardSeat (Seeded T))
-        → InsertedAs (fits_seeded fits) shard draft answer old new → Type 0
+        → InsertedAs (fits_seeded fits) shard draft true true answer old new → Type 0
     KeepsAs (Ok stored.Placed) old new did = ShowsOver (insertions.Placed did.0) old new
     KeepsAs (Ok stored.Dropped) old new did =
         (did.told ≡ Reserved) × ShowsOver (left_out did.matched) old new
@@ -62,7 +62,7 @@ module _ {T : Type 0} (shard : Shard (Seeded T) Global) (draft : Draft) where
 
     -- one that keeps a reference
     abbrev pub KeepsPinnedAs : (answer : Result Pinned Refused) (old new : ShardSeat (Seeded T))
-        → PinnedAs (fits_seeded fits) shard draft answer old new → Type 0
+        → PinnedAs (fits_seeded fits) shard draft true true answer old new → Type 0
     KeepsPinnedAs (Ok (pinned.Placed pin)) old new did =
         ShowsOver (insertions.Placed pin.slot) old new
     KeepsPinnedAs (Ok pinned.Standalone) old new did =

@@ -1,5 +1,5 @@
 -- What calls leave of what a client knows the shards of a cache to show.
-use Rattle.std.specs.Prelude.{◌≡◌, ℕ, ◌&&◌, Bool, List, Some, slice_get}
+use Rattle.std.specs.Prelude.{◌≡◌, ℕ, ◌&&◌, Bool, List, Some, slice_get, true}
 use Rattle.std.specs.declared.alloc.Global.{Global}
 use Rattle.hcc_rule.specs.declared.key.Key.{Key}
 use Rattle.hcc_shard.specs.declared.seat.ShardSeat.{ShardSeat}
@@ -26,10 +26,10 @@ module _ {T : Type 0} (cache : Cache T) where
 
   -- The reference of a pin was given back in this shard, by the events there, and no other seat
   -- changed.
-  abbrev pub ReleasesPin : Hold → (slot : ℕ) → (used erase freed : Bool) → (old new : Client T)
-      → Type 0
-  ReleasesPin hold slot used erase freed old new =
-      AtShard cache (λ shard was is. ReleasesAt shard slot hold.serial used erase freed was is)
+  abbrev pub ReleasesPin : Hold → (slot : ℕ) → (room used erase freed : Bool)
+      → (old new : Client T) → Type 0
+  ReleasesPin hold slot room used erase freed old new =
+      AtShard cache (λ shard was is. ReleasesAt shard slot hold.serial room used erase freed was is)
       hold.shard old new
       × OnlyAt hold.shard old new
 
@@ -38,7 +38,7 @@ module _ {T : Type 0} (cache : Cache T) where
   ReleasesIn handle useful erase freed old new =
       (hold : Hold) (slot : ℕ) (counting : Bool) → hold_of old handle ≡ Some hold
       → hold.kept ≡ Pinned slot counting
-      → ReleasesPin hold slot (useful && counting) erase freed old new
+      → ReleasesPin hold slot true (useful && counting) erase freed old new
 
   -- one on a standalone entry changes nothing of what is shown
   abbrev pub StaysWhereStanding : Handle → (old new : Client T) → Type 0

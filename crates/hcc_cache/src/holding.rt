@@ -1,7 +1,10 @@
 //! What a client keeps of its handles.
 ghost use Rattle.std.specs.Prelude.{◌≡◌, ◌+◌, ◌-◌, ◌<◌, ◌≤◌, ◌^◌, ◌↔◌, Some, None, IfErr, IfOk, IsErrOf};
+ghost use Rattle.std.specs.Int.{from_le_bytes};
+ghost use mir.Syntax.{w64};
 ghost use Rattle.slab.specs.Slab.{get, slab_len, HasRoomFor, Updates};
 ghost use Rattle.hcc_cache.specs.declared.holding.Kept.TheVariants.{Standing};
+ghost use Rattle.hcc_cache.specs.Alones.{bytes_of, IsObject};
 ghost use Rattle.hcc_cache.specs.Calls.{capacities_of};
 ghost use Rattle.hcc_cache.specs.Clients.{Holds, IsPinOf, hold_of};
 
@@ -58,7 +61,69 @@ pub(crate) struct Alone {
     pub(crate) charge: u32,
     /// How many handles there are on it.
     pub(crate) references: u32,
-    pub(crate) value: Vec<u8>,
+    pub(crate) value: Value,
+}
+
+/// The value of a standalone entry.
+#[derive(Drop)]
+pub(crate) enum Value {
+    Bytes(Vec<u8>),
+    /// Of an object: its word, the lowest byte first.
+    Word([u8; 8]),
+}
+
+/// What an insertion gives that may come to stand alone.
+pub(crate) trait Standing: Drop {
+    ghost use Rattle.std.specs.Prelude.{ℕ, List};
+
+    // Its bytes.
+    ghost bytes: { Self → List ℕ };
+
+    fn as_bytes(&self) -> &[u8]
+        ensures { result.now ≡ bytes self.now };
+
+    fn into_value(self) -> Value
+        ensures { bytes_of result ≡ bytes self };
+}
+
+impl Standing for Vec<u8> {
+    ghost bytes = { λ value. value.items };
+
+    #[inline(always)]
+    fn as_bytes(&self) -> &[u8] {
+        self
+    }
+
+    #[inline(always)]
+    fn into_value(self) -> Value {
+        Value::Bytes(self)
+    }
+}
+
+impl Standing for [u8; 8] {
+    ghost bytes = { λ word. word };
+
+    #[inline(always)]
+    fn as_bytes(&self) -> &[u8] {
+        self
+    }
+
+    #[inline(always)]
+    fn into_value(self) -> Value {
+        Value::Word(self)
+    }
+}
+
+impl Value {
+    /// Its bytes.
+    pub(crate) fn bytes(&self) -> &[u8]
+        ensures { result.now ≡ bytes_of self.now }
+    {
+        match self {
+            Value::Bytes(value) => value,
+            Value::Word(word) => word,
+        }
+    }
 }
 
 impl<T> Client<T> {

@@ -2,10 +2,11 @@
 ghost use Rattle.std.specs.Prelude.{◌≡◌, ◌+◌, ◌-◌, ◌*◌, ◌<◌, ◌≤◌, ◌^◌, ◌↔◌, true, Some, None, Ok, Err, IfOk, IfErr, IsErrOf, MatchResult, length, ℕ};
 ghost use Rattle.slab.specs.Slab.{get, slab_len, HasRoomFor, Updates};
 ghost use Rattle.hcc_cache.specs.declared.holding.Kept.TheVariants.{Standing};
-ghost use Rattle.hcc_shard.specs.Inserted.{inserting, inserting_between};
-ghost use Rattle.hcc_cache.specs.Calls.{OnlyAt, TakesAtMost, TakesFor, capacities_of, shard_in};
+ghost use Rattle.hcc_charge.specs.Evicted.{turn_room};
+ghost use Rattle.hcc_shard.specs.Inserted.{inserting, inserting_between, inserting_listed, listed_between};
+ghost use Rattle.hcc_cache.specs.Calls.{HandsAt, OnlyAt, TakesAtMost, TakesFor, capacities_of, shard_in};
 ghost use Rattle.hcc_cache.specs.Clients.{held_by};
-ghost use Rattle.hcc_cache.specs.Inserts.{Inserts, InsertsAt, InsertsPinnedAt, InsertsWith, RefusesPinnedAt, RefusesWith, answer_of};
+ghost use Rattle.hcc_cache.specs.Inserts.{Inserts, InsertsAt, InsertsAtListed, InsertsListed, InsertsPinnedAt, InsertsPinnedAtListed, InsertsWith, InsertsWithListed, RefusesPinnedAt, RefusesPinnedAtListed, RefusesWith, RefusesWithListed, answer_of};
 ghost use Rattle.hcc_cache.specs.Known.{Knows};
 ghost use Rattle.hcc_cache.specs.Moments.{KnowsShown};
 
@@ -13,12 +14,14 @@ use crate::cache::Cache;
 use crate::client::Client;
 use crate::errors::{InsertError, LookupError};
 use crate::handle::Handle;
-use crate::holding::{Alone, Kept};
+use crate::holding::{Alone, Kept, Standing, Value};
 use crate::lookups::pinned;
 use crate::priority::Priority;
+use crate::seeded::Seeded;
 use hcc_charge::Refused;
 use hcc_rule::{Draft, Key, Tag};
 use hcc_shard::Pinned;
+use hcc_table::{FreedList, NoList};
 
 /// What came of an insertion.
 #[derive(Clone, Copy, Debug, PartialEq, Eq)]
@@ -101,17 +104,19 @@ impl<T: Tag> Cache<T> {
         if self.is_too_large(charge) {
             return Err(InsertError::TooLarge);
         }
-        self.stored(client, key, value, charge, priority)
+        self.stored(client, key, value, charge, priority, &mut NoList)
     }
 
-    /// The same, where a serial is left and the charge isn't too large.
-    fn stored(
+    /// The same, where a serial is left and the charge isn't too large. It puts on a list what its
+    /// eviction frees.
+    pub(crate) fn stored<L: FreedList<Seeded<T>>>(
         &self,
         client: &mut Client<T>,
         key: Key,
         value: &[u8],
         charge: u32,
         priority: Priority,
+        list: &mut L,
     ) -> Result<Inserted, InsertError>
         requires known { Knows self.now client.old }
         requires fits { T.fits self.now.tag key value.now }
@@ -120,9 +125,13 @@ impl<T: Tag> Cache<T> {
         requires some { 0 < client.old.left }
         requires small { self.now.strict ≡ true → charge ≤ self.now.capacity }
         ensures known { Knows self.now client.new }
-        ensures inserted { Inserts self.now key charge priority value.now result
+        ensures list { HandsAt self.now (L.shelf list.old) (L.shelf list.new)
+            (shard_in self.now key) client.old client.new }
+        ensures inserted { InsertsListed self.now key charge priority value.now
+            (turn_room (L.shelf list.old)) (turn_room (L.shelf list.new)) result
             client.old client.new }
-        ensures evicts { InsertsAt self.now T.fits key charge priority result
+        ensures evicts { InsertsAtListed self.now T.fits key charge priority
+            (turn_room (L.shelf list.old)) (turn_room (L.shelf list.new)) result
             client.old client.new }
         ensures shown { self.now.geometry.clients ≡ 1 → result ≡ Ok Inserted.Placed
             → KnowsShown self.now key client.new }
@@ -130,10 +139,10 @@ impl<T: Tag> Cache<T> {
         ensures no_large { ¬ IsErrOf result InsertError.TooLarge }
         ensures others { OnlyAt (shard_in self.now key) client.old client.new }
         ensures frees { TakesFor self.now 7
-            (inserting_between self.now.geometry.slots self.now.geometry.room)
+            (listed_between self.now.geometry.slots self.now.geometry.room L.loads)
             (shard_in self.now key) client.old client.new }
         ensures steps { TakesAtMost
-            (inserting self.now.geometry.slots self.now.geometry.room)
+            (inserting_listed self.now.geometry.slots self.now.geometry.room L.loads)
             client.old client.new }
     {
         let seeded = self.key_to(client, key);
@@ -146,7 +155,7 @@ impl<T: Tag> Cache<T> {
             name: None,
         };
         let seat = &mut client.seats[shard];
-        answered(self.shards[shard].insert(seat, draft, value))
+        answered(self.shards[shard].insert(seat, draft, value, list))
     }
 
     /// Whether a charge is above the capacity of a shard, which is strict.
@@ -252,21 +261,23 @@ impl<T: Tag> Cache<T> {
         if self.is_too_large(charge) {
             return Err((InsertError::TooLarge, value));
         }
-        self.stored_pinned(client, key, value, charge, priority)
+        self.stored_pinned(client, key, value, charge, priority, &mut NoList)
     }
 
-    /// The same, where a handle may be given and the charge isn't too large.
-    fn stored_pinned(
+    /// The same, where a handle may be given and the charge isn't too large. It puts on a list what
+    /// its eviction frees.
+    pub(crate) fn stored_pinned<L: FreedList<Seeded<T>>, V: Standing>(
         &self,
         client: &mut Client<T>,
         key: Key,
-        value: Vec<u8>,
+        value: V,
         charge: u32,
         priority: Priority,
-    ) -> Result<(Handle, Inserted), (InsertError, Vec<u8>)>
+        list: &mut L,
+    ) -> Result<(Handle, Inserted), (InsertError, V)>
         requires known { Knows self.now client.old }
-        requires fits { T.fits self.now.tag key value.items }
-        requires short { length value.items ≤ 8 * self.now.geometry.room }
+        requires fits { T.fits self.now.tag key (V.bytes value) }
+        requires short { length (V.bytes value) ≤ 8 * self.now.geometry.room }
         requires paid { 0 < charge }
         requires free { (held_by client.old < client.old.most) × (0 < client.old.left) }
         requires small { self.now.strict ≡ true → charge ≤ self.now.capacity }
@@ -274,25 +285,31 @@ impl<T: Tag> Cache<T> {
         ensures back { IfErr result (λ e. e.1 ≡ value) }
         ensures late { IfErr result (λ e. (¬ (e.0 ≡ InsertError.HandlesFull))
             × (¬ (e.0 ≡ InsertError.Spent)) × (¬ (e.0 ≡ InsertError.TooLarge))) }
+        ensures list { HandsAt self.now (L.shelf list.old) (L.shelf list.new)
+            (shard_in self.now key) client.old client.new }
         ensures inserted { MatchResult result
-            (λ made. InsertsWith self.now key charge priority value.items made.0 made.1
+            (λ made. InsertsWithListed self.now key charge priority (V.bytes value)
+            (turn_room (L.shelf list.old)) (turn_room (L.shelf list.new)) made.0 made.1
             client.old client.new)
-            (λ e. RefusesWith self.now key charge priority value.items e.0
+            (λ e. RefusesWithListed self.now key charge priority (V.bytes value)
+            (turn_room (L.shelf list.old)) (turn_room (L.shelf list.new)) e.0
             client.old client.new) }
         ensures evicts { MatchResult result
-            (λ made. InsertsPinnedAt self.now T.fits key charge priority made.1
+            (λ made. InsertsPinnedAtListed self.now T.fits key charge priority
+            (turn_room (L.shelf list.old)) (turn_room (L.shelf list.new)) made.1
             client.old client.new)
-            (λ e. RefusesPinnedAt self.now T.fits key charge priority e.0
+            (λ e. RefusesPinnedAtListed self.now T.fits key charge priority
+            (turn_room (L.shelf list.old)) (turn_room (L.shelf list.new)) e.0
             client.old client.new) }
         ensures shown { self.now.geometry.clients ≡ 1
             → IfOk result (λ made. made.1 ≡ Inserted.Placed
             → KnowsShown self.now key client.new) }
         ensures others { OnlyAt (shard_in self.now key) client.old client.new }
         ensures frees { TakesFor self.now 7
-            (inserting_between self.now.geometry.slots self.now.geometry.room)
+            (listed_between self.now.geometry.slots self.now.geometry.room L.loads)
             (shard_in self.now key) client.old client.new }
         ensures steps { TakesAtMost
-            (inserting self.now.geometry.slots self.now.geometry.room)
+            (inserting_listed self.now.geometry.slots self.now.geometry.room L.loads)
             client.old client.new }
     {
         let seeded = self.key_to(client, key);
@@ -305,14 +322,14 @@ impl<T: Tag> Cache<T> {
             name: Some(client.used),
         };
         let seat = &mut client.seats[shard];
-        let bytes: &[u8] = &value;
-        match self.shards[shard].insert_pinned(seat, draft, bytes) {
+        let bytes = value.as_bytes();
+        match self.shards[shard].insert_pinned(seat, draft, bytes, list) {
             Ok(Pinned::Placed { pin }) => {
                 let handle = client.keep(key, shard, pinned(pin));
                 Ok((handle, Inserted::Placed))
             }
             Ok(Pinned::Standalone) => {
-                let handle = client.keep_alone(key, shard, charge, value);
+                let handle = client.keep_alone(key, shard, charge, value.into_value());
                 Ok((handle, Inserted::Standalone))
             }
             Err(why) => {
@@ -325,7 +342,7 @@ impl<T: Tag> Cache<T> {
 
 impl<T> Client<T> {
     /// Gives a handle on a standalone entry, which is named by the next serial.
-    fn keep_alone(&mut self, key: Key, shard: usize, charge: u32, value: Vec<u8>) -> Handle
+    fn keep_alone(&mut self, key: Key, shard: usize, charge: u32, value: Value) -> Handle
         requires room { HasRoomFor self.old.handles 1 × HasRoomFor self.old.alone 1 }
         requires held { self.old.held < self.old.most }
         requires serial { (0 < self.old.left) × (self.old.used + self.old.left < 2 ^ 64) }

@@ -328,7 +328,7 @@ pub fn law_kept_shown<T: Tag>()
     ensures releases { (config : Config) (tag : T) (cache : Cache T)
         → IsCacheOf config tag cache → config.clients ≡ 1 → (hold : Hold) (slot : ℕ)
         (used erase freed : Bool) (key : Key) (old new : Client T)
-        → ReleasesPin cache hold slot used erase freed old new → (k : KnowsShown cache key old)
+        → ReleasesPin cache hold slot true used erase freed old new → (k : KnowsShown cache key old)
         → (shard_in cache key ≡ hold.shard → k.slot ≡ slot → freed ≡ false)
         → KnowsShown cache key new }
 

@@ -10,6 +10,7 @@ mod drafting;
 mod erasing;
 mod errors;
 mod getting;
+mod gone;
 mod handle;
 mod holding;
 mod image;

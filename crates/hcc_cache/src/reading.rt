@@ -123,7 +123,7 @@ impl<T: Tag> Cache<T> {
                 let seat = &mut client.seats[hold.shard];
                 self.shards[hold.shard].value_len(seat, pin)
             }
-            Err(index) => client.alone[index].value.len(),
+            Err(index) => client.alone[index].value.bytes().len(),
         }
     }
 
@@ -155,7 +155,7 @@ impl<T: Tag> Cache<T> {
                 self.shards[hold.shard].read_value(seat, pin, buffer)
             }
             Err(index) => {
-                let value = &client.alone[index].value;
+                let value = client.alone[index].value.bytes();
                 buffer[..value.len()].copy_from_slice(value);
                 value.len()
             }
@@ -192,7 +192,7 @@ impl<T: Tag> Cache<T> {
                 self.shards[hold.shard].try_read(seat, pin, buffer)
             }
             Err(index) => {
-                let value = &client.alone[index].value;
+                let value = client.alone[index].value.bytes();
                 let len = value.len();
                 if buffer.len() < len {
                     return Err(len);

@@ -1,19 +1,21 @@
 //! Handles that are given back.
-ghost use Rattle.std.specs.Prelude.{◌≡◌, ◌+◌, ◌*◌, ◌&&◌, true, false, IfNone, IfSome, Some};
+ghost use Rattle.std.specs.Prelude.{◌≡◌, ◌+◌, ◌-◌, ◌*◌, ◌&&◌, true, false, IfNone, IfSome, Some};
 ghost use Rattle.hcc_cache.specs.declared.holding.Kept.TheVariants.{Pinned, Standing};
-ghost use Rattle.hcc_cache.specs.Calls.{CountsAt, CountsBy, CountsNone, GivesBackIn, GivesUp, Releases, TakesAtMost};
+ghost use Rattle.hcc_cache.specs.Calls.{CountsAt, CountsBy, CountsNone, GivesBackIn, GivesUp, HandsAt, Releases, TakesAtMost};
 ghost use Rattle.hcc_cache.specs.Clients.{hold_of, Holds, IsPinOf};
 ghost use Rattle.hcc_cache.specs.Handles.{handle_of, HoldsNone};
 ghost use Rattle.hcc_cache.specs.Known.{Knows};
 ghost use Rattle.hcc_cache.specs.Stays.{ReleasesIn, ReleasesPin, Stays, StaysWhereStanding};
+ghost use Rattle.hcc_table.specs.Lists.{has_room};
 ghost use Rattle.hcc_table.specs.Steps.{freeing};
 
 use crate::cache::Cache;
 use crate::client::Client;
 use crate::handle::{Handle, HandleParts};
 use crate::holding::Hold;
+use crate::seeded::Seeded;
 use hcc_rule::Tag;
-use hcc_table::{IfLast, Pin, Use};
+use hcc_table::{FreedList, IfLast, NoList, Pin, Use};
 
 impl<T: Tag> Cache<T> {
     /// Gives a handle back: as a use of its entry where it is useful. Where it was the last
@@ -106,13 +108,17 @@ impl<T: Tag> Cache<T> {
         ensures steps { TakesAtMost (freeing self.now.geometry.slots + 3) client.old client.new }
     {
         match hold.pin() {
-            Ok(pin) => self.release_pin(client, handle, hold, pin, useful, erase_if_last),
+            Ok(pin) => {
+                let list = &mut NoList;
+                self.release_pin(client, handle, hold, pin, useful, erase_if_last, list)
+            }
             Err(index) => self.release_standing(client, handle, hold, index),
         }
     }
 
-    /// The same, of an entry of the table.
-    fn release_pin(
+    /// The same, of an entry of the table, and puts what it frees on a list, where that has room;
+    /// else it leaves the freeing to the clock.
+    pub(crate) fn release_pin<L: FreedList<Seeded<T>>>(
         &self,
         client: &mut Client<T>,
         handle: Handle,
@@ -120,19 +126,28 @@ impl<T: Tag> Cache<T> {
         pin: Pin,
         useful: bool,
         erase_if_last: bool,
+        list: &mut L,
     ) -> bool
         requires known { Knows self.now client.old }
         requires held { hold_of client.old handle ≡ Some hold }
         requires pinned { IsPinOf hold pin }
         ensures known { Knows self.now client.new }
         ensures released { Releases self.now handle erase_if_last result client.old client.new }
-        ensures gives { GivesBackIn self.now hold.shard pin.slot (useful && pin.counting)
-            erase_if_last result client.old client.new }
-        ensures by { ReleasesPin self.now hold pin.slot (useful && pin.counting)
-            erase_if_last result client.old client.new }
+        ensures list { HandsAt self.now (L.shelf list.old) (L.shelf list.new) hold.shard
+            client.old client.new }
+        ensures gives { GivesBackIn self.now hold.shard pin.slot (has_room 1 (L.shelf list.old))
+            (useful && pin.counting) erase_if_last result client.old client.new }
+        ensures by { ReleasesPin self.now hold pin.slot (has_room 1 (L.shelf list.old))
+            (useful && pin.counting) erase_if_last result client.old client.new }
         ensures stays { result ≡ false → Stays self.now client.old client.new }
         ensures counts { CountsAt hold.shard client.old client.new }
-        ensures steps { TakesAtMost (freeing self.now.geometry.slots + 3) client.old client.new }
+        ensures rest { client.new ≡ record client.old {
+          seats = client.new.seats;
+          handles = client.new.handles;
+          held = client.old.held - 1;
+        } }
+        ensures steps { TakesAtMost (freeing self.now.geometry.slots + L.loads + 3)
+            client.old client.new }
     {
         client.let_go(handle);
         let as_use = if useful { Use::Useful } else { Use::NotUseful };
@@ -142,11 +157,11 @@ impl<T: Tag> Cache<T> {
             IfLast::Keep
         };
         let seat = &mut client.seats[hold.shard];
-        self.shards[hold.shard].release(seat, pin, as_use, last)
+        self.shards[hold.shard].release(seat, pin, as_use, last, list)
     }
 
     /// The same, of a standalone entry.
-    fn release_standing(
+    pub(crate) fn release_standing(
         &self,
         client: &mut Client<T>,
         handle: Handle,

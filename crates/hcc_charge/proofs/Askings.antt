@@ -89,7 +89,7 @@ module _ {T A : Type 0} (table : RuleTable T A) (charge used : ℕ) where
   lacked_lax lax = ap (λ s. needed_by s (capacity_of table) used charge) lax
 
 module _ {T A : Type 0} (fits : T → Key → List ℕ → Type 0) (table : RuleTable T A) (charge : ℕ)
-    {taken used ask : ℕ} {full strict : Bool} {swept : Swept} {before after : Tally}
+    {taken used ask : ℕ} {full strict had has : Bool} {swept : Swept} {before after : Tally}
     {effort counted : Effort} {a u b c : SeatOf T} where
   -- A reservation evicted exactly for what it asks for, whatever came behind it.
   abbrev pub evicts_as_asked : full ≡ is_full table taken → is_strict table ≡ strict
@@ -98,7 +98,8 @@ module _ {T A : Type 0} (fits : T → Key → List ℕ → Type 0) (table : Rule
       → Makes (address_of_ledger table USAGE) (added strict charge) 0 used u b
       → IsEvent table (enter_done (setup_of (plan_of table)) taken (view a)) a u
       → FindsBy table strict charge used u b → EvictsNothing (view u) (view b)
-      → EvictsFor fits table ask swept b c → IsSweptFor (slots_of table) ask swept
+      → EvictsFor fits table had has ask swept b c
+      → IsSweptFor had has (slots_of table) ask swept
       → Sweeps swept.turns swept.slots swept.charge (view b) (view c)
       → Tallied swept before after → Lost swept.lost swept.lost effort counted
       → IsBetweenCalls (view a).work
@@ -106,9 +107,9 @@ module _ {T A : Type 0} (fits : T → Key → List ℕ → Type 0) (table : Rule
       → taken + (view a).takings ≡ length (view a).made + occupied_by (view a).work)
       → (clients_of table ≡ 1 → used ≤ charged_to (view u).work + charge_made (view u))
       → (d : SeatOf T) → EvictsNothing (view c) (view d) → GoesOnBy table is_booking c d
-      → EvictsAsAsked fits table charge before after effort counted a d
-  evicts_as_asked is_found is_kind is_asked enters opens finds enters_by finds_by first evicts
-      within sweeps tallied lost idle places charges d last behind =
+      → EvictsAsAsked fits table charge had has before after effort counted a d
+  evicts_as_asked is_found is_kind is_asked enters opens finds enters_by finds_by found evicts
+      within sweeps tallied lost idle places charges d left behind =
       record {
         taken = taken;
         used = used;
@@ -122,26 +123,26 @@ module _ {T A : Type 0} (fits : T → Key → List ℕ → Type 0) (table : Rule
             (sym is_kind) finds;
         enters_by = enters_by;
         finds_by = subst (λ s. FindsBy table s charge used u b) (sym is_kind) finds_by;
-        evicts = subst (λ n. EvictsFor fits table n swept b c) here evicts;
-        within = subst (λ n. IsSweptFor (slots_of table) n swept) here within;
+        evicts = subst (λ n. EvictsFor fits table had has n swept b c) here evicts;
+        within = subst (λ n. IsSweptFor had has (slots_of table) n swept) here within;
         turns =
-            last.turns ∙ (ap (λ (z : View T). z.turns) sweeps.same
-            ∙ ap (λ n. n + swept.turns) (first.turns ∙ ap (λ (z : View T). z.turns) opens));
+            left.turns ∙ (ap (λ (z : View T). z.turns) sweeps.same
+            ∙ ap (λ n. n + swept.turns) (found.turns ∙ ap (λ (z : View T). z.turns) opens));
         takings =
-            last.takings ∙ (ap (λ (z : View T). z.takings) sweeps.same
-            ∙ ap (λ n. n + swept.slots) (first.takings ∙ ap (λ (z : View T). z.takings) opens));
+            left.takings ∙ (ap (λ (z : View T). z.takings) sweeps.same
+            ∙ ap (λ n. n + swept.slots) (found.takings ∙ ap (λ (z : View T). z.takings) opens));
         gone =
             takes_alike sweeps.taken
-            (sym (first.gone ∙ ap (λ (z : View T). z.gone) opens)) last.gone;
+            (sym (found.gone ∙ ap (λ (z : View T). z.gone) opens)) left.gone;
         opened =
-            last.opened ∙ (ap (λ (z : View T). z.open_places) sweeps.same
-            ∙ (first.opened ∙ (ap (λ (z : View T). z.open_places) opens
+            left.opened ∙ (ap (λ (z : View T). z.open_places) sweeps.same
+            ∙ (found.opened ∙ (ap (λ (z : View T). z.open_places) opens
             ∙ ap (λ f. (view a).open_places + when f 1) is_found)));
         tallied = tallied;
         lost = lost;
         behind = behind;
-        taken_alone = λ one. let found = places one in let none = no_place in omega arith;
-        used_alone = λ one. let found = charges one in let own = stands in omega arith;
+        taken_alone = λ one. let some = places one in let none = no_place in omega arith;
+        used_alone = λ one. let some = charges one in let own = stands in omega arith;
       }
     where
       -- between two calls a client has no place and no freed slot,

@@ -1,5 +1,5 @@
 -- What a reservation leaves of a view, step by step.
-use Rattle.std.proofs.Common.{◌≡◌, ℕ, ◌+◌, ◌-◌, ◌<◌, min, max, ◌++◌, nat_lt, cond, Bool, true, false, List, [], ◌∷◌, sym, subst, refl, ap, ◌∙◌, arith}
+use Rattle.std.proofs.Common.{◌≡◌, ℕ, ◌+◌, ◌-◌, ◌<◌, min, max, ◌&&◌, ◌++◌, nat_lt, cond, Bool, true, false, List, [], ◌∷◌, sym, subst, refl, ap, ◌∙◌, arith}
 use Rattle.std.proofs.lemmas.Bool.{lt-ltb}
 use Rattle.hcc_core.specs.declared.client.Client.{Client}
 use Rattle.hcc_core.specs.declared.client.Owned.TheVariants as owned
@@ -206,10 +206,10 @@ module _ {T : Type 0} where
           ap (λ (z : View T). z.tight) left ∙ (ap (λ (z : View T). z.tight) s.same
           ∙ ap (λ (z : View T). z.tight) ask.same)
 
-      abbrev pub reserves :
-          nat_lt 0 swept.turns ≡ has_cause strict capacity charge ask.full ask.used
-          → IsSweptFor slots (asked strict capacity charge ask.full ask.used) swept
-          → Reserves slots capacity strict charge place granted v w
+      abbrev pub reserves : {had has : Bool}
+          → nat_lt 0 swept.turns ≡ (had && has_cause strict capacity charge ask.full ask.used)
+          → IsSweptFor had has slots (asked strict capacity charge ask.full ask.used) swept
+          → Reserves had has slots capacity strict charge place granted v w
       reserves cause evicts = record {
         shortage = record {
           full = ask.full;

@@ -35,6 +35,7 @@ use Rattle.hcc_charge.specs.declared.reserving.Refused.TheVariants.{TooLarge, Ca
 use Rattle.hcc_charge.specs.declared.reserving.Reservation.{Reservation}
 use Rattle.hcc_charge.specs.declared.reserving.Reservation.TheVariants.{Reserved, NoPlace}
 use Rattle.hcc_charge.specs.declared.tally.Tally.{Tally}
+use Rattle.hcc_charge.specs.Swept.{nothing_swept}
 use Rattle.hcc_charge.specs.Asked.{is_full, lacked, EvictsAsAsked, EvictsBy, EvictsNothing, FindsBy}
 use Rattle.hcc_charge.specs.Reserved.{asked, needed_by, still_needed, surplus}
 use Rattle.hcc_charge.proofs.Askings.{none_taken}
@@ -64,68 +65,77 @@ finds_still table false charge used a b event =
     goes_event table is_still (usage_done used (view a)) a b event refl
 
 module _ {T A : Type 0} (fits : T → Key → List ℕ → Type 0) (table : RuleTable T A) (charge : ℕ)
-    {before after : Tally} {effort counted : Effort} {a d : SeatOf T} where
+    {had has : Bool} {before after : Tally} {effort counted : Effort} {a d : SeatOf T} where
   -- what this reservation asked for
-  abbrev pub asked_by : EvictsAsAsked fits table charge before after effort counted a d → ℕ
+  abbrev pub asked_by : EvictsAsAsked fits table charge had has before after effort counted a d → ℕ
   asked_by e =
       asked (is_strict table) (capacity_of table) charge (is_full table e.taken) e.used
 
-  -- Where nothing is asked for all that is shown stays.
-  pub unasked_still : (e : EvictsAsAsked fits table charge before after effort counted a d)
-      → asked_by e ≡ 0 → GoesOnStill table a d
-  unasked_still e none =
+  -- Where its eviction did nothing all that is shown stays.
+  pub idle_still : (e : EvictsAsAsked fits table charge had has before after effort counted a d)
+      → e.c ≡ e.b → GoesOnStill table a d
+  idle_still e none =
       goes_then table is_still a e.u d
       (goes_event table is_still (enter_done (setup_of (plan_of table)) e.taken (view a)) a e.u
       e.enters_by refl)
       (goes_then table is_still e.u e.b d
       (finds_still table (is_strict table) charge e.used e.u e.b e.finds_by)
-      (subst (λ z. GoesOnStill table z d) (e.evicts.none none).1
-      (booked_still table e.c d e.behind)))
+      (subst (λ z. GoesOnStill table z d) none (booked_still table e.c d e.behind)))
 
   -- So it is where no turn was made:
-  module _ (e : EvictsAsAsked fits table charge before after effort counted a d)
+  module _ (e : EvictsAsAsked fits table charge had has before after effort counted a d)
       (same : (view d).turns ≡ (view a).turns) where
-    asks_nothing : asked_by e ≡ 0
-    asks_nothing =
-        asks_none e.swept.turns (asked_by e) (let all = e.turns in omega arith) e.within.made
+    asks_nothing : had ≡ true → asked_by e ≡ 0
+    asks_nothing room =
+        asks_none e.swept.turns (asked_by e) (let all = e.turns in omega arith)
+        (e.within.made ∙ ap (λ b. b && nat_lt 0 (asked_by e)) room)
+
+    nothing_done : (e.swept ≡ nothing_swept) × (e.c ≡ e.b)
+    nothing_done = by had refl
+      where
+        by : (b : Bool) → had ≡ b → (e.swept ≡ nothing_swept) × (e.c ≡ e.b)
+        by true room = e.evicts.none (asks_nothing room)
+        by false none = e.evicts.full none
 
     turned_still : GoesOnStill table a d
-    turned_still = unasked_still e asks_nothing
+    turned_still = idle_still e nothing_done.1
 
-    -- a place was found then, and all of the charge,
-    turned_found : (is_full table e.taken ≡ false) × (lacked table charge e.used ≡ 0)
-    turned_found =
+    -- a place was found then, and all of the charge, if the list had room,
+    turned_found : had ≡ true
+        → (is_full table e.taken ≡ false) × (lacked table charge e.used ≡ 0)
+    turned_found room =
         lacks_none (is_strict table) (capacity_of table) charge e.used (is_full table e.taken)
-        asks_nothing
+        (asks_nothing room)
 
     -- and nothing was evicted.
-    turned_idle : EvictsNothing (view a) (view d)
-    turned_idle = record {
+    turned_idle : had ≡ true → EvictsNothing (view a) (view d)
+    turned_idle room = record {
       turns = same;
       takings =
           let all = e.takings in
-          let none = ap (λ s. s.slots) (e.evicts.none asks_nothing).0 in
+          let none = ap (λ s. s.slots) nothing_done.0 in
           omega arith;
-      gone = none_taken (ap (λ s. s.slots) (e.evicts.none asks_nothing).0) e.gone;
+      gone = none_taken (ap (λ s. s.slots) nothing_done.0) e.gone;
       opened =
-          e.opened ∙ (let none = ap (λ f. when f 1) turned_found.0 in omega arith);
+          e.opened ∙ (let none = ap (λ f. when f 1) (turned_found room).0 in omega arith);
     }
 
 -- A reservation that turned the hand no further leaves all that is shown.
 pub unturned_still : {T A : Type 0} (fits : T → Key → List ℕ → Type 0) (table : RuleTable T A)
-    (charge : ℕ) (answer : Result Reservation Refused) (before after : Tally)
+    (charge : ℕ) (had has : Bool) (answer : Result Reservation Refused) (before after : Tally)
     (effort counted : Effort) (a d : SeatOf T)
-    → EvictsBy fits table charge answer before after effort counted a d
+    → EvictsBy fits table charge had has answer before after effort counted a d
     → (view d).turns ≡ (view a).turns → GoesOnStill table a d
-unturned_still fits table charge (Ok Reserved) before after effort counted a d h same =
+unturned_still fits table charge had has (Ok Reserved) before after effort counted a d h same =
     turned_still fits table charge h.0 same
-unturned_still fits table charge (Ok NoPlace) before after effort counted a d h same =
+unturned_still fits table charge had has (Ok NoPlace) before after effort counted a d h same =
     turned_still fits table charge h.0 same
-unturned_still fits table charge (Err TooLarge) before after effort counted a d h same =
+unturned_still fits table charge had has (Err TooLarge) before after effort counted a d h same =
     goes_none table is_still a d h.2
-unturned_still fits table charge (Err CapacityFull) before after effort counted a d h same =
+unturned_still fits table charge had has (Err CapacityFull) before after effort counted a d h same =
     turned_still fits table charge h.0 same
-unturned_still fits table charge (Err OccupancyFull) before after effort counted a d h same =
+unturned_still fits table charge had has (Err OccupancyFull) before after effort counted a d h same
+    =
     turned_still fits table charge h.0 same
 
 -- what one may answer that turned the hand no further
@@ -136,19 +146,20 @@ MayAnswer (Err TooLarge) = Unit {0}
 MayAnswer (Err CapacityFull) = ⊥
 MayAnswer (Err OccupancyFull) = ⊥
 
--- It evicted nothing, and answers so.
+-- It evicted nothing, and answers so, where the list had room for a turn.
 pub unturned : {T A : Type 0} (fits : T → Key → List ℕ → Type 0) (table : RuleTable T A)
-    (charge : ℕ) (answer : Result Reservation Refused) (before after : Tally)
+    (charge : ℕ) (had has : Bool) (answer : Result Reservation Refused) (before after : Tally)
     (effort counted : Effort) (a d : SeatOf T)
-    → EvictsBy fits table charge answer before after effort counted a d
-    → (view d).turns ≡ (view a).turns → MayAnswer answer × EvictsNothing (view a) (view d)
-unturned fits table charge (Ok Reserved) before after effort counted a d h same =
-    let idle = turned_idle fits table charge h.0 same in (tt, idle)
-unturned fits table charge (Ok NoPlace) before after effort counted a d h same =
+    → EvictsBy fits table charge had has answer before after effort counted a d
+    → had ≡ true → (view d).turns ≡ (view a).turns
+    → MayAnswer answer × EvictsNothing (view a) (view d)
+unturned fits table charge had has (Ok Reserved) before after effort counted a d h room same =
+    let idle = turned_idle fits table charge h.0 same room in (tt, idle)
+unturned fits table charge had has (Ok NoPlace) before after effort counted a d h room same =
     let full = h.1 in
-    let free = (turned_found fits table charge h.0 same).0 in
+    let free = (turned_found fits table charge h.0 same room).0 in
     absurd (let never : ⊥ = cc in never)
-unturned fits table charge (Err TooLarge) before after effort counted a d h same = (
+unturned fits table charge had has (Err TooLarge) before after effort counted a d h room same = (
   tt,
   record {
     turns = ap (λ z. (view z).turns) h.2;
@@ -157,13 +168,13 @@ unturned fits table charge (Err TooLarge) before after effort counted a d h same
     opened = ap (λ z. (view z).open_places) h.2;
   },
 )
-unturned fits table charge (Err CapacityFull) before after effort counted a d h same =
+unturned fits table charge had has (Err CapacityFull) before after effort counted a d h room same =
     let short = h.1 in
-    let none = (turned_found fits table charge h.0 same).1 in
+    let none = (turned_found fits table charge h.0 same room).1 in
     absurd (omega arith)
-unturned fits table charge (Err OccupancyFull) before after effort counted a d h same =
+unturned fits table charge had has (Err OccupancyFull) before after effort counted a d h room same =
     let full = h.1 in
-    let free = (turned_found fits table charge h.0 same).0 in
+    let free = (turned_found fits table charge h.0 same room).0 in
     absurd (let never : ⊥ = cc in never)
 
 -- What replies tell of the world.
@@ -251,15 +262,15 @@ room_lacks true capacity charge used fits = (omega arith, omega arith)
 room_lacks false capacity charge used fits = (lax_fits capacity charge used fits, refl)
 
 module _ {T A : Type 0} (fits : T → Key → List ℕ → Type 0) (table : RuleTable T A) (charge : ℕ)
-    {before after : Tally} {effort counted : Effort} {a d : SeatOf T} where
+    {had has : Bool} {before after : Tally} {effort counted : Effort} {a d : SeatOf T} where
   -- A reservation found a place and all of the charge, and asked eviction for nothing.
-  pub record FindsAll (e : EvictsAsAsked fits table charge before after effort counted a d)
+  pub record FindsAll (e : EvictsAsAsked fits table charge had has before after effort counted a d)
       : Type 0 where
     pub free : is_full table e.taken ≡ false
     pub asks : asked_by fits table charge e ≡ 0
     pub lacks : lacked table charge e.used ≡ 0
 
-  finds_all : (e : EvictsAsAsked fits table charge before after effort counted a d)
+  finds_all : (e : EvictsAsAsked fits table charge had has before after effort counted a d)
       → e.taken < limit_of (setup_of (plan_of table))
       → (asked (is_strict table) (capacity_of table) charge false e.used ≡ 0)
       × (needed_by (is_strict table) (capacity_of table) e.used charge ≡ 0) → FindsAll e
@@ -274,7 +285,7 @@ module _ {T A : Type 0} (fits : T → Key → List ℕ → Type 0) (table : Rule
 
   -- It does where all that one client made leaves room.
   made_found : clients_of table ≡ 1
-      → (e : EvictsAsAsked fits table charge before after effort counted a d)
+      → (e : EvictsAsAsked fits table charge had has before after effort counted a d)
       → length (view a).made - (view a).takings < limit_of (setup_of (plan_of table))
       → standing_of (view a).work + charge_made (view a) + charge ≤ capacity_of table → FindsAll e
   made_found one e place room =
@@ -309,67 +320,69 @@ module _ {T A : Type 0} (fits : T → Key → List ℕ → Type 0) (table : Rule
       event)) in
       (none, none)
 
-  module _ {before after : Tally} {effort counted : Effort} {a d : SeatOf T} where
-    -- A reservation in a world with room finds all.
-    room_found : (e : EvictsAsAsked fits table charge before after effort counted a d)
-        → occupancy_of (world_at table a) < limit_of (setup_of (plan_of table))
-        → usage_of (world_at table a) + charge ≤ capacity_of table → FindsAll fits table charge e
-    room_found e place room =
-        finds_all fits table charge e
-        (ltb-true e.taken (limit_of (setup_of (plan_of table)))
-        (sym told.0
-        ∙ lt-ltb (occupancy_of (world_at table a)) (limit_of (setup_of (plan_of table)))
-        place))
-        (finds_room (is_strict table) e.used e.u e.b refl e.finds_by
-        (let same = told.1 in omega arith))
-      where
-        told : (nat_lt (occupancy_of (world_at table a)) (limit_of (setup_of (plan_of table)))
-            ≡ nat_lt e.taken (limit_of (setup_of (plan_of table))))
-            × (usage_of (world_at table e.u) ≡ usage_of (world_at table a))
-        told =
-            enter_tells (world_at table a) (world_at table e.u) (setup_of (plan_of table))
-            (view a).client e.taken (setup_at a)
-            (event_alone table one (enter_done (setup_of (plan_of table)) e.taken (view a)) a e.u
-            e.enters_by)
+  module _ {had has : Bool} {before after : Tally} {effort counted : Effort} {a d : SeatOf T}
+    where
+      -- A reservation in a world with room finds all.
+      room_found : (e : EvictsAsAsked fits table charge had has before after effort counted a d)
+          → occupancy_of (world_at table a) < limit_of (setup_of (plan_of table))
+          → usage_of (world_at table a) + charge ≤ capacity_of table → FindsAll fits table charge e
+      room_found e place room =
+          finds_all fits table charge e
+          (ltb-true e.taken (limit_of (setup_of (plan_of table)))
+          (sym told.0
+          ∙ lt-ltb (occupancy_of (world_at table a)) (limit_of (setup_of (plan_of table)))
+          place))
+          (finds_room (is_strict table) e.used e.u e.b refl e.finds_by
+          (let same = told.1 in omega arith))
+        where
+          told : (nat_lt (occupancy_of (world_at table a)) (limit_of (setup_of (plan_of table)))
+              ≡ nat_lt e.taken (limit_of (setup_of (plan_of table))))
+              × (usage_of (world_at table e.u) ≡ usage_of (world_at table a))
+          told =
+              enter_tells (world_at table a) (world_at table e.u) (setup_of (plan_of table))
+              (view a).client e.taken (setup_at a)
+              (event_alone table one (enter_done (setup_of (plan_of table)) e.taken (view a)) a e.u
+              e.enters_by)
 
 -- A reservation that finds all is granted, and turns the hand no further.
 granted : {T A : Type 0} (fits : T → Key → List ℕ → Type 0) (table : RuleTable T A)
-    (charge : ℕ) (answer : Result Reservation Refused) (before after : Tally)
+    (charge : ℕ) (had has : Bool) (answer : Result Reservation Refused) (before after : Tally)
     (effort counted : Effort) (a d : SeatOf T)
-    → EvictsBy fits table charge answer before after effort counted a d
+    → EvictsBy fits table charge had has answer before after effort counted a d
     → charge ≤ capacity_of table
-    → ((e : EvictsAsAsked fits table charge before after effort counted a d)
+    → ((e : EvictsAsAsked fits table charge had has before after effort counted a d)
     → FindsAll fits table charge e)
     → (answer ≡ Ok Reserved) × ((view d).turns ≡ (view a).turns)
-granted fits table charge (Ok Reserved) before after effort counted a d h small found =
+granted fits table charge had has (Ok Reserved) before after effort counted a d h small found =
     let none = ap (λ s. s.turns) (h.0.evicts.none (found h.0).asks).0 in
     let all = h.0.turns in
     (refl, omega arith)
-granted fits table charge (Ok NoPlace) before after effort counted a d h small found =
+granted fits table charge had has (Ok NoPlace) before after effort counted a d h small found =
     let full = h.1 in
     let free = (found h.0).free in
     absurd (let never : ⊥ = cc in never)
-granted fits table charge (Err TooLarge) before after effort counted a d h small found =
+granted fits table charge had has (Err TooLarge) before after effort counted a d h small found =
     absurd (let large = h.3 in omega arith)
-granted fits table charge (Err CapacityFull) before after effort counted a d h small found =
+granted fits table charge had has (Err CapacityFull) before after effort counted a d h small found =
     let short = h.1 in
     let none = (found h.0).lacks in
     absurd (omega arith)
-granted fits table charge (Err OccupancyFull) before after effort counted a d h small found =
+granted fits table charge had has (Err OccupancyFull) before after effort counted a d h small found
+    =
     let full = h.1 in
     let free = (found h.0).free in
     absurd (let never : ⊥ = cc in never)
 
 module _ {T A : Type 0} (fits : T → Key → List ℕ → Type 0) (table : RuleTable T A) (charge : ℕ)
-    (answer : Result Reservation Refused) (before after : Tally) (effort counted : Effort)
-    (a d : SeatOf T) (one : clients_of table ≡ 1)
-    (h : EvictsBy fits table charge answer before after effort counted a d) where
+    (had has : Bool) (answer : Result Reservation Refused) (before after : Tally)
+    (effort counted : Effort) (a d : SeatOf T) (one : clients_of table ≡ 1)
+    (h : EvictsBy fits table charge had has answer before after effort counted a d) where
   -- So it is in a world with room,
   pub roomy : occupancy_of (world_at table a) < limit_of (setup_of (plan_of table))
       → usage_of (world_at table a) + charge ≤ capacity_of table
       → (answer ≡ Ok Reserved) × ((view d).turns ≡ (view a).turns)
   roomy place room =
-      granted fits table charge answer before after effort counted a d h (omega arith)
+      granted fits table charge had has answer before after effort counted a d h (omega arith)
       (λ e. room_found fits table one charge e place room)
 
   -- and where all that the one client made leaves room.
@@ -377,5 +390,5 @@ module _ {T A : Type 0} (fits : T → Key → List ℕ → Type 0) (table : Rule
       → standing_of (view a).work + charge_made (view a) + charge ≤ capacity_of table
       → (answer ≡ Ok Reserved) × ((view d).turns ≡ (view a).turns)
   roomy_beside place room =
-      granted fits table charge answer before after effort counted a d h (omega arith)
+      granted fits table charge had has answer before after effort counted a d h (omega arith)
       (λ e. made_found fits table charge one e place room)

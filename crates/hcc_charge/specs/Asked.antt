@@ -75,65 +75,66 @@ module _ {T A : Type 0} (table : RuleTable T A) where
       × MakesSome (address_of_ledger table USAGE) (charge + swept.charge) 0 mid new
 
 module _ {T A : Type 0} (fits : T → Key → List ℕ → Type 0) (table : RuleTable T A) (charge : ℕ)
-  where
-    -- A reservation found so many places taken, and this usage, and evicted exactly for what it
-    -- asks for then, which left the seat c. The client's view counts the turns, what they took and
-    -- the open place, its tally all that they did, and its effort the exchanges that they lost. The
-    -- steps before the eviction are told by their events, too. Behind it the client keeps what it
-    -- reserved, or gives it back, and does nothing else.
-    pub record EvictsAsAsked (before after : Tally) (effort counted : Effort) (a d : SeatOf T)
-        : Type 0 where
-      pub taken : ℕ
-      pub used : ℕ
-      pub swept : Swept
-      pub u : SeatOf T
-      pub b : SeatOf T
-      pub c : SeatOf T
-      pub enters : Enters table taken a u
-      pub finds : Makes (address_of_ledger table USAGE) (added (is_strict table) charge) 0 used u b
-      pub enters_by : IsEvent table (enter_done (setup_of (plan_of table)) taken (view a)) a u
-      pub finds_by : FindsBy table (is_strict table) charge used u b
-      pub evicts : EvictsFor fits table
-          (asked (is_strict table) (capacity_of table) charge (is_full table taken) used) swept b c
-      pub within : IsSweptFor (slots_of table)
-          (asked (is_strict table) (capacity_of table) charge (is_full table taken) used) swept
-      pub turns : (view d).turns ≡ (view a).turns + swept.turns
-      pub takings : (view d).takings ≡ (view a).takings + swept.slots
-      -- the entries that were taken are those that it freed, of that charge
-      pub gone : Takes swept.slots swept.charge (view a) (view d)
-      pub opened : (view d).open_places ≡ (view a).open_places + when (is_full table taken) 1
-      pub tallied : Tallied swept before after
-      pub lost : Lost swept.lost swept.lost effort counted
-      pub behind : GoesOnBy table is_booking c d
-      -- A client that is alone made all that it found: the places taken are for what it made and
-      -- didn't take,
-      pub taken_alone : clients_of table ≡ 1
-          → taken + (view a).takings ≡ length (view a).made
-      -- and the usage is at most the charges of all that it made, with what stands for it.
-      pub used_alone : clients_of table ≡ 1
-          → used ≤ standing_of (view a).work + charge_made (view a)
+    (had has : Bool) where
+  -- A reservation found so many places taken, and this usage, and evicted exactly for what it
+  -- asks for then, which left the seat c. The client's view counts the turns, what they took and
+  -- the open place, its tally all that they did, and its effort the exchanges that they lost. The
+  -- steps before the eviction are told by their events, too. The list had room for a turn before,
+  -- and has it behind it, or not. Behind it the client keeps what it
+  -- reserved, or gives it back, and does nothing else.
+  pub record EvictsAsAsked (before after : Tally) (effort counted : Effort) (a d : SeatOf T)
+      : Type 0 where
+    pub taken : ℕ
+    pub used : ℕ
+    pub swept : Swept
+    pub u : SeatOf T
+    pub b : SeatOf T
+    pub c : SeatOf T
+    pub enters : Enters table taken a u
+    pub finds : Makes (address_of_ledger table USAGE) (added (is_strict table) charge) 0 used u b
+    pub enters_by : IsEvent table (enter_done (setup_of (plan_of table)) taken (view a)) a u
+    pub finds_by : FindsBy table (is_strict table) charge used u b
+    pub evicts : EvictsFor fits table had has
+        (asked (is_strict table) (capacity_of table) charge (is_full table taken) used) swept b c
+    pub within : IsSweptFor had has (slots_of table)
+        (asked (is_strict table) (capacity_of table) charge (is_full table taken) used) swept
+    pub turns : (view d).turns ≡ (view a).turns + swept.turns
+    pub takings : (view d).takings ≡ (view a).takings + swept.slots
+    -- the entries that were taken are those that it freed, of that charge
+    pub gone : Takes swept.slots swept.charge (view a) (view d)
+    pub opened : (view d).open_places ≡ (view a).open_places + when (is_full table taken) 1
+    pub tallied : Tallied swept before after
+    pub lost : Lost swept.lost swept.lost effort counted
+    pub behind : GoesOnBy table is_booking c d
+    -- A client that is alone made all that it found: the places taken are for what it made and
+    -- didn't take,
+    pub taken_alone : clients_of table ≡ 1
+        → taken + (view a).takings ≡ length (view a).made
+    -- and the usage is at most the charges of all that it made, with what stands for it.
+    pub used_alone : clients_of table ≡ 1
+        → used ≤ standing_of (view a).work + charge_made (view a)
 
-    -- What a reservation found and evicted, by its answer: what was lacked was freed, and a slot
-    -- where the shard was full; no slot was freed in a full shard; or less charge was than was
-    -- lacked. The steps behind its eviction settle or give back exactly what that freed.
-    abbrev pub EvictsBy : Result Reservation Refused → (before after : Tally)
-        → (effort counted : Effort) → (a d : SeatOf T) → Type 0
-    EvictsBy (Ok Reserved) before after effort counted a d =
-        (e : EvictsAsAsked before after effort counted a d)
-        × (is_full table e.taken ≡ true → 0 < e.swept.slots)
-        × (lacked table charge e.used ≤ e.swept.charge)
-        × Grants table (is_strict table) charge e.swept e.c d
-    EvictsBy (Ok NoPlace) before after effort counted a d =
-        (e : EvictsAsAsked before after effort counted a d) × (is_full table e.taken ≡ true)
-        × (e.swept.slots ≡ 0)
-        × MakesSome (address_of_ledger table OCCUPANCY) 1 0 e.c d
-    EvictsBy (Err TooLarge) before after effort counted a d =
-        (after ≡ before) × (counted ≡ effort) × (d ≡ a) × (capacity_of table < charge)
-    EvictsBy (Err CapacityFull) before after effort counted a d =
-        (e : EvictsAsAsked before after effort counted a d)
-        × (e.swept.charge < lacked table charge e.used)
-        × GivesAllBack table charge e.swept e.c d
-    EvictsBy (Err OccupancyFull) before after effort counted a d =
-        (e : EvictsAsAsked before after effort counted a d) × (is_full table e.taken ≡ true)
-        × (e.swept.slots ≡ 0)
-        × (lacked table charge e.used ≡ 0) × GivesAllBack table charge e.swept e.c d
+  -- What a reservation found and evicted, by its answer: what was lacked was freed, and a slot
+  -- where the shard was full; no slot was freed in a full shard; or less charge was than was
+  -- lacked. The steps behind its eviction settle or give back exactly what that freed.
+  abbrev pub EvictsBy : Result Reservation Refused → (before after : Tally)
+      → (effort counted : Effort) → (a d : SeatOf T) → Type 0
+  EvictsBy (Ok Reserved) before after effort counted a d =
+      (e : EvictsAsAsked before after effort counted a d)
+      × (is_full table e.taken ≡ true → 0 < e.swept.slots)
+      × (lacked table charge e.used ≤ e.swept.charge)
+      × Grants table (is_strict table) charge e.swept e.c d
+  EvictsBy (Ok NoPlace) before after effort counted a d =
+      (e : EvictsAsAsked before after effort counted a d) × (is_full table e.taken ≡ true)
+      × (e.swept.slots ≡ 0)
+      × MakesSome (address_of_ledger table OCCUPANCY) 1 0 e.c d
+  EvictsBy (Err TooLarge) before after effort counted a d =
+      (after ≡ before) × (counted ≡ effort) × (d ≡ a) × (capacity_of table < charge)
+  EvictsBy (Err CapacityFull) before after effort counted a d =
+      (e : EvictsAsAsked before after effort counted a d)
+      × (e.swept.charge < lacked table charge e.used)
+      × GivesAllBack table charge e.swept e.c d
+  EvictsBy (Err OccupancyFull) before after effort counted a d =
+      (e : EvictsAsAsked before after effort counted a d) × (is_full table e.taken ≡ true)
+      × (e.swept.slots ≡ 0)
+      × (lacked table charge e.used ≡ 0) × GivesAllBack table charge e.swept e.c d

@@ -1,5 +1,5 @@
 -- What turns of the hand leave of a view, and when an eviction ends.
-use Rattle.std.specs.Prelude.{◌≡◌, ℕ, ◌+◌, ◌*◌, ◌/◌, ◌%◌, ◌==◌, ◌<◌, ◌≤◌, ◌||◌, Bool, true, false, nat_le, nat_lt, List, [], ◌∷◌, ◌++◌, length}
+use Rattle.std.specs.Prelude.{◌≡◌, ℕ, ◌+◌, ◌*◌, ◌/◌, ◌%◌, ◌==◌, ◌<◌, ◌≤◌, ◌&&◌, ◌||◌, Option, Bool, true, false, nat_le, nat_lt, List, [], ◌∷◌, ◌++◌, length}
 use Rattle.hcc_core.specs.declared.client.Owned.TheVariants as owned
 use Rattle.hcc_core.specs.declared.limits.TheConstants.{SLOTS_PER_TURN}
 use Rattle.hcc_rule.specs.declared.key.Key.{Key}
@@ -12,6 +12,7 @@ use Rattle.hcc_rule.specs.Gone.{Takes}
 use Rattle.hcc_rule.specs.Seats.{SeatOf, Makes, view}
 use Rattle.hcc_rule.specs.ToldLedgers.{after_turn}
 use Rattle.hcc_table.specs.declared.visiting.ClockVisit.{ClockVisit}
+use Rattle.hcc_table.specs.Lists.{Shelf, has_room}
 use Rattle.hcc_table.specs.Searched.{Grows}
 use Rattle.hcc_table.specs.Visited.{Visited}
 use Rattle.hcc_charge.specs.declared.evicting.TheConstants.{PINNED_PER_SLOT}
@@ -22,15 +23,19 @@ use Rattle.hcc_charge.specs.Swept.{IsModest, both, nothing_swept, one_turn, swep
 abbrev pub most_turns : ℕ → ℕ
 most_turns slots = 3 * slots / 4 + 1
 
+-- the most entries that it frees
+abbrev pub most_freed : ℕ → ℕ
+most_freed slots = SLOTS_PER_TURN * most_turns slots
+
 -- the most atomic steps of so many turns that freed so many slots: one that moves the hand and two
 -- for each of the four slots, and for a slot that is freed those that give its trail back and empty
 -- it
 abbrev pub sweeping : (slots turns freed : ℕ) → ℕ
 sweeping slots turns freed = 9 * turns + (slots + 4) * freed
 
--- of an eviction, whatever it frees
-abbrev pub evicting : ℕ → ℕ
-evicting slots = sweeping slots (most_turns slots) (SLOTS_PER_TURN * most_turns slots)
+-- of an eviction, whatever it frees, where so many loads put an entry on the list
+abbrev pub evicting : (slots loads : ℕ) → ℕ
+evicting slots loads = sweeping (slots + loads) (most_turns slots) (most_freed slots)
 
 -- of a reservation, beside those of its eviction: it asks for a place and for the charge, and tells
 -- the ledgers what it got or gives back
@@ -38,8 +43,8 @@ abbrev pub asking : ℕ
 asking = 5
 
 -- and of a reservation, whatever it frees
-abbrev pub reserving : ℕ → ℕ
-reserving slots = evicting slots + asking
+abbrev pub reserving : (slots loads : ℕ) → ℕ
+reserving slots loads = evicting slots loads + asking
 
 -- as much charge was freed as was asked for, or too many visits found an entry that is held
 abbrev pub is_enough : ℕ → Swept → Bool
@@ -50,13 +55,18 @@ is_enough ask all =
 abbrev pub has_ended : (slots ask : ℕ) → Swept → Bool
 has_ended slots ask all = is_enough ask all || all.turns == most_turns slots
 
--- An eviction that asked for this much did this: it made turns until it ended. Where nothing is
--- asked for none is made.
-pub record IsSweptFor (slots ask : ℕ) (all : Swept) : Type 0 where
+-- whether a list has room for what a turn may free
+abbrev pub turn_room : Option Shelf → Bool
+turn_room = has_room SLOTS_PER_TURN
+
+-- An eviction that asked for this much did this: it made turns until it ended, or the list of what
+-- is freed had no room for another. Where nothing is asked for, or there was no room before the
+-- first, none is made. The list had room for a turn before it, and has room behind it.
+pub record IsSweptFor (had has : Bool) (slots ask : ℕ) (all : Swept) : Type 0 where
   pub few : all.turns ≤ most_turns slots
   pub modest : IsModest (4 * all.turns) all
-  pub made : nat_lt 0 all.turns ≡ nat_lt 0 ask
-  pub ends : 0 < ask → has_ended slots ask all ≡ true
+  pub made : nat_lt 0 all.turns ≡ (had && nat_lt 0 ask)
+  pub ends : 0 < ask → has ≡ true → has_ended slots ask all ≡ true
 
 -- after none of these turns it was enough
 abbrev pub GoesOn : (ask : ℕ) → Swept → List Swept → Type 0
@@ -105,19 +115,22 @@ module _ {T A : Type 0} (fits : T → Key → List ℕ → Type 0) (table : Rule
   Turns (turn ∷ more) a c = (b : SeatOf T) × Turned turn a b × Turns more b c
 
   -- An eviction that asked for this much charge did this: it made turns up to the first after which
-  -- it was enough, or to the last that it may make.
-  pub record Evicts (ask : ℕ) (all : Swept) (a b : SeatOf T) : Type 0 where
+  -- it was enough or the list had no room for another, or to the last that it may make.
+  pub record Evicts (has : Bool) (ask : ℕ) (all : Swept) (a b : SeatOf T) : Type 0 where
     pub before : List Swept
     pub last : Swept
     pub turns : Turns (before ++ last ∷ []) a b
     pub sum : all ≡ with_turns nothing_swept (before ++ last ∷ [])
     pub goes_on : GoesOn ask nothing_swept before
-    pub ends : has_ended (slots_of table) ask all ≡ true
+    pub ends : has ≡ true → has_ended (slots_of table) ask all ≡ true
 
-  -- An eviction was made just where something is asked for, and for that; else nothing was done.
-  pub record EvictsFor (ask : ℕ) (all : Swept) (a b : SeatOf T) : Type 0 where
+  -- An eviction was made just where something is asked for and the list has room for a turn, and
+  -- for that; else nothing was done.
+  pub record EvictsFor (had has : Bool) (ask : ℕ) (all : Swept) (a b : SeatOf T)
+      : Type 0 where
     pub none : ask ≡ 0 → (all ≡ nothing_swept) × (b ≡ a)
-    pub some : 0 < ask → Evicts ask all a b
+    pub full : had ≡ false → (all ≡ nothing_swept) × (b ≡ a)
+    pub some : 0 < ask → had ≡ true → Evicts has ask all a b
 
 module _ {T : Type 0} where
   -- The client made so many turns of the hand, and took so many entries with this charge in sum,

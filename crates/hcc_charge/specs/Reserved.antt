@@ -66,13 +66,15 @@ has_cause true capacity charge full used =
     full || nat_lt 0 (still_needed capacity used charge)
 has_cause false capacity charge full used = full || presses capacity charge used
 
--- What a reservation found, and what its eviction did. It evicts just where it has a cause.
-pub record Shortage (slots capacity : ℕ) (strict : Bool) (charge : ℕ) : Type 0 where
+-- What a reservation found, and what its eviction did. It evicts just where it has a cause, and the
+-- list has room for a turn.
+pub record Shortage (had has : Bool) (slots capacity : ℕ) (strict : Bool) (charge : ℕ)
+    : Type 0 where
   pub full : Bool
   pub used : ℕ
   pub swept : Swept
-  pub cause : nat_lt 0 swept.turns ≡ has_cause strict capacity charge full used
-  pub evicts : IsSweptFor slots (asked strict capacity charge full used) swept
+  pub cause : nat_lt 0 swept.turns ≡ (had && has_cause strict capacity charge full used)
+  pub evicts : IsSweptFor had has slots (asked strict capacity charge full used) swept
 
 module _ {T : Type 0} where
   -- a place was asked for
@@ -97,9 +99,9 @@ module _ {T : Type 0} where
   -- A reservation was tried, and this place and this much charge are granted. Nothing is needed,
   -- and what was freed is settled. It took as many entries as its eviction freed, none of which was
   -- Shown with uses left. All else stays.
-  pub record Reserves (slots capacity : ℕ) (strict : Bool) (charge : ℕ) (place : Place)
-      (granted : ℕ) (v w : View T) : Type 0 where
-    pub shortage : Shortage slots capacity strict charge
+  pub record Reserves (had has : Bool) (slots capacity : ℕ) (strict : Bool) (charge : ℕ)
+      (place : Place) (granted : ℕ) (v w : View T) : Type 0 where
+    pub shortage : Shortage had has slots capacity strict charge
     pub same : w ≡ record v {
       work = record v.work {
         looked = w.work.looked;
@@ -125,23 +127,23 @@ module _ {T : Type 0} where
     pub taken : Takes shortage.swept.slots shortage.swept.charge v w
 
   -- The view after a reservation, by its answer.
-  abbrev pub ReservedBy : (slots capacity : ℕ) → (strict : Bool) → (charge : ℕ)
-      → Result Reservation Refused → View T → View T → Type 0
-  ReservedBy slots capacity strict charge (Ok Reserved) v w =
-      (r : Reserves slots capacity strict charge places.Granted charge v w)
+  abbrev pub ReservedBy : (had has : Bool) → (slots capacity : ℕ) → (strict : Bool)
+      → (charge : ℕ) → Result Reservation Refused → View T → View T → Type 0
+  ReservedBy had has slots capacity strict charge (Ok Reserved) v w =
+      (r : Reserves had has slots capacity strict charge places.Granted charge v w)
       × (r.shortage.full ≡ true → 0 < r.shortage.swept.slots)
       × (needed_by strict capacity r.shortage.used charge ≤ r.shortage.swept.charge)
-  ReservedBy slots capacity strict charge (Ok NoPlace) v w =
-      Reserves slots capacity strict charge places.Absent 0 v w × (strict ≡ false)
+  ReservedBy had has slots capacity strict charge (Ok NoPlace) v w =
+      Reserves had has slots capacity strict charge places.Absent 0 v w × (strict ≡ false)
       × (v.open_places < w.open_places) × (w.takings ≡ v.takings)
-  ReservedBy slots capacity strict charge (Err TooLarge) v w =
+  ReservedBy had has slots capacity strict charge (Err TooLarge) v w =
       (strict ≡ true) × (capacity < charge) × (w ≡ v)
-  ReservedBy slots capacity strict charge (Err CapacityFull) v w =
-      (r : Reserves slots capacity strict charge places.Absent 0 v w) × (strict ≡ true)
+  ReservedBy had has slots capacity strict charge (Err CapacityFull) v w =
+      (r : Reserves had has slots capacity strict charge places.Absent 0 v w) × (strict ≡ true)
       × (w.tight ≡ v.tight ++ charge ∷ [])
       × (r.shortage.swept.charge < still_needed capacity r.shortage.used charge)
-  ReservedBy slots capacity strict charge (Err OccupancyFull) v w =
-      Reserves slots capacity strict charge places.Absent 0 v w × (strict ≡ true)
+  ReservedBy had has slots capacity strict charge (Err OccupancyFull) v w =
+      Reserves had has slots capacity strict charge places.Absent 0 v w × (strict ≡ true)
       × (v.open_places < w.open_places) × (w.takings ≡ v.takings) × (w.tight ≡ v.tight)
 
   -- the most atomic steps of the turns that a view counts between, by what they took

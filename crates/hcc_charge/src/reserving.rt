@@ -12,9 +12,10 @@ ghost use Rattle.hcc_table.specs.Efforts.{Lost};
 ghost use Rattle.hcc_table.specs.Erased.{IsAtRest};
 ghost use Rattle.hcc_charge.specs.declared.reserving.Refused.TheVariants.{TooLarge};
 ghost use Rattle.hcc_charge.specs.Asked.{is_full, Enters, EvictsBy, GivesAllBack};
-ghost use Rattle.hcc_charge.specs.Evicted.{asking, most_turns, sweeping, EvictsFor, IsSweptFor, Sweeps};
+ghost use Rattle.hcc_charge.specs.Evicted.{asking, most_turns, sweeping, turn_room, EvictsFor, IsSweptFor, Sweeps};
 ghost use Rattle.hcc_charge.specs.Reserved.{entered, settled_as, sweeping_between, ReservedBy};
 ghost use Rattle.hcc_charge.specs.Swept.{Tallied};
+ghost use Rattle.hcc_table.specs.Lists.{Hands};
 ghost use Rattle.hcc_table.specs.Seeking.{is_booking, GoesOnBy};
 ghost use Rattle.hcc_table.specs.Steps.{MakesAtMost};
 ghost use Rattle.hcc_table.specs.Still.{GoesOnStill};
@@ -26,7 +27,7 @@ use crate::swept::Swept;
 use crate::tally::Tally;
 use hcc_core::limits::OCCUPANCY_PERCENT;
 use hcc_rule::{RuleSeat, RuleTable, Tag};
-use hcc_table::Effort;
+use hcc_table::{Effort, FreedList};
 use std::alloc::Allocator;
 
 /// What came of a reservation.
@@ -64,8 +65,10 @@ pub enum Refused {
 /// Not strict, and no place found: nothing is granted or charged. Under strict capacity, where less
 /// charge was freed than needed, or no place was found: the place, the charge and what was freed
 /// are given back. It evicts exactly where the shard was full, where the charge didn't fit, or
-/// where under strict capacity not all of it was granted at once. So CapacityFull, OccupancyFull
-/// and NoPlace come after an eviction that has ended, and the last two only where it freed nothing.
+/// where under strict capacity not all of it was granted at once; but no turn is made where the
+/// list has room for fewer than four entries. So CapacityFull, OccupancyFull and NoPlace come after
+/// an eviction that has ended, or that had no more room, and the last two only where it freed
+/// nothing.
 ///
 /// The eviction is for exactly what is asked for, by the words that the first two steps found:
 /// before its last turn less than that was freed, and the last turn frees at most four entries
@@ -79,10 +82,11 @@ pub enum Refused {
 /// It allocates nothing. It costs at most five steps beside those of its eviction. Where nothing is
 /// evicted it costs an atomic add, and a load with an atomic add, or under strict capacity one more
 /// atomic add.
-pub fn reserve<T: Tag, A: Allocator>(
+pub fn reserve<T: Tag, A: Allocator, L: FreedList<T>>(
     table: &RuleTable<T, A>,
     seat: &mut RuleSeat<T>,
     charge: u32,
+    list: &mut L,
     tally: &mut Tally,
     effort: &mut Effort,
 ) -> Result<Reservation, Refused>
@@ -90,33 +94,37 @@ pub fn reserve<T: Tag, A: Allocator>(
     requires idle { IsBetweenCalls (view seat.old).work }
     requires some { 0 < charge }
     ensures seat { IsSameSeat seat.old seat.new }
-    ensures view { ReservedBy (slots_of table.now) (capacity_of table.now) (is_strict table.now)
+    ensures list { Hands (L.shelf list.old) (L.shelf list.new) (view seat.old) (view seat.new) }
+    ensures view { ReservedBy (turn_room (L.shelf list.old)) (turn_room (L.shelf list.new))
+        (slots_of table.now) (capacity_of table.now) (is_strict table.now)
         charge result (view seat.old) (view seat.new) }
     ensures large { is_strict table.now ≡ true → capacity_of table.now < charge
         → result ≡ Err TooLarge }
-    ensures evicts { EvictsBy T.fits table.now charge result tally.old tally.new
-        effort.old effort.new seat.old seat.new }
+    ensures evicts { EvictsBy T.fits table.now charge (turn_room (L.shelf list.old)) (turn_room
+        (L.shelf list.new))
+        result tally.old tally.new effort.old effort.new seat.old seat.new }
     ensures still { (view seat.new).turns ≡ (view seat.old).turns
         → GoesOnStill table.now seat.old seat.new }
     ensures effort { Lost 0 (4 * most_turns (slots_of table.now)) effort.old effort.new }
     ensures steps { MakesAtMost (asking
-        + sweeping_between (slots_of table.now) (view seat.old) (view seat.new))
+        + sweeping_between (slots_of table.now + L.loads) (view seat.old) (view seat.new))
         seat.old seat.new }
 {
     if !table.strict() {
-        return Ok(reserve_lax(table, seat, charge, tally, effort));
+        return Ok(reserve_lax(table, seat, charge, list, tally, effort));
     }
     if charge as u64 > table.capacity() {
         return Err(Refused::TooLarge);
     }
-    reserve_strict(table, seat, charge, tally, effort)
+    reserve_strict(table, seat, charge, list, tally, effort)
 }
 
 /// Reserves where the capacity may be passed.
-fn reserve_lax<T: Tag, A: Allocator>(
+fn reserve_lax<T: Tag, A: Allocator, L: FreedList<T>>(
     table: &RuleTable<T, A>,
     seat: &mut RuleSeat<T>,
     charge: u32,
+    list: &mut L,
     tally: &mut Tally,
     effort: &mut Effort,
 ) -> Reservation
@@ -125,19 +133,22 @@ fn reserve_lax<T: Tag, A: Allocator>(
     requires lax { is_strict table.now ≡ false }
     requires some { 0 < charge }
     ensures seat { IsSameSeat seat.old seat.new }
-    ensures view { ReservedBy (slots_of table.now) (capacity_of table.now) false
+    ensures list { Hands (L.shelf list.old) (L.shelf list.new) (view seat.old) (view seat.new) }
+    ensures view { ReservedBy (turn_room (L.shelf list.old)) (turn_room (L.shelf list.new))
+        (slots_of table.now) (capacity_of table.now) false
         charge (Ok result) (view seat.old) (view seat.new) }
-    ensures evicts { EvictsBy T.fits table.now charge (Ok result) tally.old tally.new
-        effort.old effort.new seat.old seat.new }
+    ensures evicts { EvictsBy T.fits table.now charge (turn_room (L.shelf list.old)) (turn_room
+        (L.shelf list.new))
+        (Ok result) tally.old tally.new effort.old effort.new seat.old seat.new }
     ensures effort { Lost 0 (4 * most_turns (slots_of table.now)) effort.old effort.new }
     ensures steps { MakesAtMost (asking
-        + sweeping_between (slots_of table.now) (view seat.old) (view seat.new))
+        + sweeping_between (slots_of table.now + L.loads) (view seat.old) (view seat.new))
         seat.old seat.new }
 {
     let full = enter(table, seat);
     let used = table.usage(seat);
     let least = at_least_one(ask(table.capacity(), used, charge), full);
-    let swept = evict_for(table, seat, least, tally, effort);
+    let swept = evict_for(table, seat, least, list, tally, effort);
     if full && swept.slots == 0 {
         table.quit(seat, 1);
         return Reservation::NoPlace;
@@ -149,10 +160,11 @@ fn reserve_lax<T: Tag, A: Allocator>(
 }
 
 /// Reserves where the capacity must be kept, a charge that is within it.
-fn reserve_strict<T: Tag, A: Allocator>(
+fn reserve_strict<T: Tag, A: Allocator, L: FreedList<T>>(
     table: &RuleTable<T, A>,
     seat: &mut RuleSeat<T>,
     charge: u32,
+    list: &mut L,
     tally: &mut Tally,
     effort: &mut Effort,
 ) -> Result<Reservation, Refused>
@@ -161,20 +173,23 @@ fn reserve_strict<T: Tag, A: Allocator>(
     requires strict { is_strict table.now ≡ true }
     requires some { 0 < charge }
     ensures seat { IsSameSeat seat.old seat.new }
-    ensures view { ReservedBy (slots_of table.now) (capacity_of table.now) true
+    ensures list { Hands (L.shelf list.old) (L.shelf list.new) (view seat.old) (view seat.new) }
+    ensures view { ReservedBy (turn_room (L.shelf list.old)) (turn_room (L.shelf list.new))
+        (slots_of table.now) (capacity_of table.now) true
         charge result (view seat.old) (view seat.new) }
     ensures not_large { result ≢ Err TooLarge }
-    ensures evicts { EvictsBy T.fits table.now charge result tally.old tally.new
-        effort.old effort.new seat.old seat.new }
+    ensures evicts { EvictsBy T.fits table.now charge (turn_room (L.shelf list.old)) (turn_room
+        (L.shelf list.new))
+        result tally.old tally.new effort.old effort.new seat.old seat.new }
     ensures effort { Lost 0 (4 * most_turns (slots_of table.now)) effort.old effort.new }
     ensures steps { MakesAtMost (asking
-        + sweeping_between (slots_of table.now) (view seat.old) (view seat.new))
+        + sweeping_between (slots_of table.now + L.loads) (view seat.old) (view seat.new))
         seat.old seat.new }
 {
     let full = enter(table, seat);
     let used = table.charge(seat, charge);
     let needed = needed(table.capacity(), used, charge);
-    let swept = evict_for(table, seat, at_least_one(needed, full), tally, effort);
+    let swept = evict_for(table, seat, at_least_one(needed, full), list, tally, effort);
     if swept.charge < needed {
         refuse(table, seat, charge, swept);
         return Err(Refused::CapacityFull);
@@ -207,10 +222,11 @@ fn enter<T: Tag, A: Allocator>(table: &RuleTable<T, A>, seat: &mut RuleSeat<T>) 
 
 /// Evicts where something is asked for.
 #[inline(always)]
-fn evict_for<T: Tag, A: Allocator>(
+fn evict_for<T: Tag, A: Allocator, L: FreedList<T>>(
     table: &RuleTable<T, A>,
     seat: &mut RuleSeat<T>,
     ask: u64,
+    list: &mut L,
     tally: &mut Tally,
     effort: &mut Effort,
 ) -> Swept
@@ -220,17 +236,21 @@ fn evict_for<T: Tag, A: Allocator>(
     requires ask { ask < 2 ^ 34 }
     ensures seat { IsSameSeat seat.old seat.new }
     ensures view { Sweeps result.turns result.slots result.charge (view seat.old) (view seat.new) }
-    ensures swept { IsSweptFor (slots_of table.now) ask result }
-    ensures evicts { EvictsFor T.fits table.now ask result seat.old seat.new }
+    ensures list { Hands (L.shelf list.old) (L.shelf list.new) (view seat.old) (view seat.new) }
+    ensures swept { IsSweptFor (turn_room (L.shelf list.old)) (turn_room (L.shelf list.new))
+        (slots_of table.now) ask result }
+    ensures evicts { EvictsFor T.fits table.now (turn_room (L.shelf list.old)) (turn_room (L.shelf
+        list.new))
+        ask result seat.old seat.new }
     ensures tally { Tallied result tally.old tally.new }
     ensures effort { Lost result.lost result.lost effort.old effort.new }
-    ensures steps { MakesAtMost (sweeping (slots_of table.now) result.turns result.slots)
+    ensures steps { MakesAtMost (sweeping (slots_of table.now + L.loads) result.turns result.slots)
         seat.old seat.new }
 {
     if ask == 0 {
         return Swept::NOTHING;
     }
-    evict(table, seat, ask, tally, effort)
+    evict(table, seat, ask, list, tally, effort)
 }
 
 /// Gives back the place and the charge that were asked for, with what was freed.

@@ -232,7 +232,7 @@ module _ {T : Type 0} (config : Config) (tag : T) (cache : Cache T)
     -- the slot of its reference showed no other key
     other_slot : (hold : Hold) (slot : ℕ) (counting : Bool)
         → hold_of old did.handle ≡ Some hold → hold.kept ≡ AtSlot slot counting
-        → (pin : ReleasesPin cache hold slot (useful && counting) erase true old new)
+        → (pin : ReleasesPin cache hold slot true (useful && counting) erase true old new)
         → (other : Key) → IsOfWords other → ¬ (held ≡ Some other)
         → ¬ ShowsKey (world_at pin.0.shard.table pin.0.was.seat) (key_to cache.seed other) slot
     other_slot hold slot counting here kept pin other words apart shows =

@@ -206,12 +206,12 @@ but_less slot (Some charge) w v h s = elim (cases_eq s slot) [
 
 -- what a release leaves of the other slots
 pub release_others : {T A : Type 0} (shard : Shard T A) (slot name : ℕ) (used erase freed : Bool)
-    (old new : ShardSeat T) → ReleasesAt shard slot name used erase freed old new
+    (old new : ShardSeat T) → ReleasesAt shard slot name true used erase freed old new
     → clients_of shard.table ≡ 1 → (s : ℕ) → ¬ (s ≡ slot)
     → shown_at (world_at shard.table new.seat) s ≡ shown_at (world_at shard.table old.seat) s
 release_others shard slot name used erase freed old new h one s other =
     settled_keeps shard.table one h.mid new.seat h.settles s
-    ∙ (releases_show shard.table one slot name used erase h.charge old.seat h.mid
+    ∙ (releases_show shard.table one slot name true used erase h.charge old.seat h.mid
     h.releases).others s other
 
 -- what a slot shows on which a client holds an entry is that entry
@@ -231,14 +231,16 @@ held_shown client name key e (Some (slots.Shareable r)) held shows =
 
 -- where slots show what they showed, or nothing, as a release leaves them
 pub release_less : {T A : Type 0} (shard : Shard T A) (slot name : ℕ) (used erase freed : Bool)
-    (old new : ShardSeat T) → ReleasesAt shard slot name used erase freed old new
+    (old new : ShardSeat T) → ReleasesAt shard slot name true used erase freed old new
     → clients_of shard.table ≡ 1 → (s : ℕ)
     → (shown_at (world_at shard.table new.seat) s ≡ shown_at (world_at shard.table old.seat) s)
     ⊎ (shown_at (world_at shard.table new.seat) s ≡ None)
 release_less shard slot name used erase freed old new h one s =
     let settled = settled_keeps shard.table one h.mid new.seat h.settles s in
-    elim (but_less slot h.charge (world_at shard.table old.seat) (world_at shard.table h.mid)
-    (releases_show shard.table one slot name used erase h.charge old.seat h.mid h.releases) s) [
+    let shows = releases_show shard.table one slot name true used erase h.charge old.seat h.mid
+    h.releases in
+    elim (but_less slot h.charge (world_at shard.table old.seat) (world_at shard.table h.mid) shows
+    s) [
       | inl same ↦ inl (settled ∙ same)
       | inr none ↦ inr (settled ∙ none)
     ]

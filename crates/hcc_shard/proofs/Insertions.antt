@@ -80,10 +80,11 @@ module _ {T : Type 0} where
   }
 
   -- Nothing was reserved.
-  pub tries_none : (slots capacity : ℕ) (strict : Bool) (charge : ℕ) (v w : View T)
-      → Reserves slots capacity strict charge places.Absent 0 v w
-      → Tries slots capacity strict charge v.work.stamps v.work.standalones v.records v.made v w
-  tries_none slots capacity strict charge v w r = record {
+  pub tries_none : (had has : Bool) (slots capacity : ℕ) (strict : Bool) (charge : ℕ) (v w : View T)
+      → Reserves had has slots capacity strict charge places.Absent 0 v w
+      → Tries had has slots capacity strict charge v.work.stamps v.work.standalones v.records v.made
+      v w
+  tries_none had has slots capacity strict charge v w r = record {
     shortage = r.shortage;
     met = [];
     tries = 0;
@@ -115,11 +116,12 @@ module _ {T : Type 0} where
   }
 
   -- Nothing was reserved, and the entry stands alone.
-  pub tries_alone : (slots capacity : ℕ) (strict : Bool) (charge name : ℕ) (v a w : View T)
-      → Reserves slots capacity strict charge places.Absent 0 v a → w ≡ stood name charge a
-      → Tries slots capacity strict charge v.work.stamps
+  pub tries_alone : (had has : Bool) (slots capacity : ℕ) (strict : Bool) (charge name : ℕ) (v a w :
+      View T)
+      → Reserves had has slots capacity strict charge places.Absent 0 v a → w ≡ stood name charge a
+      → Tries had has slots capacity strict charge v.work.stamps
       (v.work.standalones ++ record { name = name; charge = charge } ∷ []) v.records v.made v w
-  tries_alone slots capacity strict charge name v a w r stands = record {
+  tries_alone had has slots capacity strict charge name v a w r stands = record {
     shortage = r.shortage;
     met = [];
     tries = 0;
@@ -154,12 +156,12 @@ module _ {T : Type 0} where
     taken = takes_alike r.taken refl (ap (λ (z : View T). z.gone) stands);
   }
 
-  module _ (slots capacity : ℕ) (strict : Bool) (charge : ℕ) (v a : View T)
-      (r : Reserves slots capacity strict charge places.Granted charge v a) where
+  module _ (had has : Bool) (slots capacity : ℕ) (strict : Bool) (charge : ℕ) (v a : View T)
+      (r : Reserves had has slots capacity strict charge places.Granted charge v a) where
     -- The entry was placed.
     pub tries_placed : (slot : ℕ) (draft : Draft) (value : List ℕ) (w : View T)
         → draft.charge ≡ charge → Tried (after_show slot draft.name (made_of draft value) a) w
-        → Tries slots capacity strict charge (v.work.stamps + 1) v.work.standalones
+        → Tries had has slots capacity strict charge (v.work.stamps + 1) v.work.standalones
         (v.records ++ first_records slot draft.name (shown_entry v (made_of draft value)))
         (v.made ++ made_of draft value ∷ []) v w
     tries_placed slot draft value w paid t = record {
@@ -306,7 +308,8 @@ module _ {T : Type 0} where
     -- All was given up.
     pub tries_dropped : (key : Key) (b w : View T) (u : IsUnplaced slots key a b)
         → w ≡ without_place 0 b
-        → Tries slots capacity strict charge v.work.stamps v.work.standalones v.records v.made v w
+        → Tries had has slots capacity strict charge v.work.stamps v.work.standalones v.records
+        v.made v w
     tries_dropped key b w u left = record {
       shortage = r.shortage;
       met = u.met;
@@ -319,7 +322,7 @@ module _ {T : Type 0} where
     -- The charge was kept, and is a standalone entry's.
     pub tries_stood : (key : Key) (name : ℕ) (b w : View T) (u : IsUnplaced slots key a b)
         → w ≡ stood name charge (without_place charge b)
-        → Tries slots capacity strict charge v.work.stamps
+        → Tries had has slots capacity strict charge v.work.stamps
         (v.work.standalones ++ record { name = name; charge = charge } ∷ []) v.records v.made v w
     tries_stood key name b w u stands = record {
       shortage = r.shortage;
@@ -358,21 +361,21 @@ module _ {T : Type 0} where
           (ap (λ (z : View T). z.gone) stands);
     }
 
-  module _ (slots capacity : ℕ) (strict : Bool) (draft : Draft) where
+  module _ (had has : Bool) (slots capacity : ℕ) (strict : Bool) (draft : Draft) where
     -- A refusal.
     pub refused_by : (why : Refused) (v w : View T)
-        → ReservedBy slots capacity strict draft.charge (Err why) v w
-        → RefusedBy slots capacity strict draft why v w
+        → ReservedBy had has slots capacity strict draft.charge (Err why) v w
+        → RefusedBy had has slots capacity strict draft why v w
     unfolding tries_none
     refused_by TooLarge v w told = told
     refused_by CapacityFull v w told = (
-      tries_none slots capacity strict draft.charge v w told.0,
+      tries_none had has slots capacity strict draft.charge v w told.0,
       told.1,
       told.2,
       told.3,
     )
     refused_by OccupancyFull v w told = (
-      tries_none slots capacity strict draft.charge v w told.0,
+      tries_none had has slots capacity strict draft.charge v w told.0,
       told.1,
       told.2,
       told.3,
@@ -381,7 +384,7 @@ module _ {T : Type 0} where
 
     -- The shard was full:
     module _ (v a : View T)
-        (r : Reserves slots capacity strict draft.charge places.Absent 0 v a)
+        (r : Reserves had has slots capacity strict draft.charge places.Absent 0 v a)
         (more : v.open_places < a.open_places) where
       was_full : r.shortage.full ≡ true
       was_full = by r.shortage.full (ap (λ (z : View T). z.open_places) r.same)
@@ -391,42 +394,43 @@ module _ {T : Type 0} where
           by false now = absurd (omega arith)
 
       -- the entry is dropped, or stands alone.
-      pub left_none : IsUnshown slots capacity strict draft v.work.standalones v a
+      pub left_none : IsUnshown had has slots capacity strict draft v.work.standalones v a
       unfolding tries_none
       left_none = record {
-        tries = tries_none slots capacity strict draft.charge v a r;
+        tries = tries_none had has slots capacity strict draft.charge v a r;
         reason = or_first _ _ (or_first r.shortage.full _ was_full);
       }
 
       pub left_alone : (w : View T) → w ≡ stood draft.serial draft.charge a
-          → IsUnshown slots capacity strict draft (with_draft draft v.work.standalones) v w
+          → IsUnshown had has slots capacity strict draft (with_draft draft v.work.standalones) v w
       unfolding tries_alone
       left_alone w stands = record {
         tries =
-            tries_alone slots capacity strict draft.charge draft.serial v a w r stands;
+            tries_alone had has slots capacity strict draft.charge draft.serial v a w r stands;
         reason = or_first _ _ (or_first r.shortage.full _ was_full);
       }
 
     -- A place and the charge were granted:
     module _ (v a b : View T)
-        (r : Reserves slots capacity strict draft.charge places.Granted draft.charge v a)
+        (r : Reserves had has slots capacity strict draft.charge places.Granted draft.charge v a)
         (u : IsUnplaced slots draft.key a b) where
       -- the entry is dropped, or stands alone.
       pub left_dropped : (w : View T) → w ≡ without_place 0 b
-          → IsUnshown slots capacity strict draft v.work.standalones v w
+          → IsUnshown had has slots capacity strict draft v.work.standalones v w
       unfolding tries_dropped
       left_dropped w left = record {
-        tries = tries_dropped slots capacity strict draft.charge v a r draft.key b w u left;
+        tries = tries_dropped had has slots capacity strict draft.charge v a r draft.key b w u left;
         reason = or_last r.shortage.full _ _ u.why;
       }
 
       pub left_stood : (w : View T)
           → w ≡ stood draft.serial draft.charge (without_place draft.charge b)
-          → IsUnshown slots capacity strict draft (with_draft draft v.work.standalones) v w
+          → IsUnshown had has slots capacity strict draft (with_draft draft v.work.standalones) v w
       unfolding tries_stood
       left_stood w stands = record {
         tries =
-            tries_stood slots capacity strict draft.charge v a r draft.key draft.serial b w u
+            tries_stood had has slots capacity strict draft.charge v a r draft.key draft.serial b w
+            u
             stands;
         reason = or_last r.shortage.full _ _ u.why;
       }
@@ -444,7 +448,7 @@ module _ {T : Type 0} where
         (value : List ℕ) (client : ℕ) (v a : View T)
         → v.client ≡ client → client < MOST_CLIENTS → IsInsertable fits p draft value v
         → IsQuiet geometry v → IfSome draft.name (λ x. x ≡ draft.serial)
-        → Reserves slots capacity strict draft.charge places.Granted draft.charge v a
+        → Reserves had has slots capacity strict draft.charge places.Granted draft.charge v a
         → MayInsert fits p draft value client draft.serial a
     may_insert fits p geometry value client v a own known may quiet called r = record {
       own = sym own ∙ sym (ap (λ (z : View T). z.client) r.same);

@@ -1,5 +1,5 @@
 -- Which steps a release makes: it gives its reference back, and tries to take the entry where due.
-use Rattle.std.proofs.Common.{◌≡◌, ℕ, Bool, true, false, Some, None, ◌++◌, length, ap, subst, sym, refl, ◌∙◌}
+use Rattle.std.proofs.Common.{◌≡◌, ◌&&◌, ℕ, Bool, true, false, Some, None, ◌++◌, length, ap, subst, sym, refl, ◌∙◌}
 use Rattle.std.proofs.lemmas.List.{append_assoc}
 use Rattle.hcc_rule.specs.declared.view.Atomic.{Atomic}
 use Rattle.hcc_rule.specs.Seats.{SeatOf, steps}
@@ -34,12 +34,12 @@ module _ {T : Type 0} where
     g.1 ∙ ap (λ xs. xs ++ g.0) h.1 ∙ append_assoc (after (steps a) one) h.0 g.0,
   )
 
-  module _ (address slot name : ℕ) (used erase : Bool) where
+  module _ (address slot name : ℕ) (room used erase : Bool) where
     -- a release that freed nothing
     pub gives_back : (left : ℕ) (before later : Effort) (old mid new : SeatOf T)
         → IsLeft address slot 1 name used left old mid
-        → TriedWhereDue address left (is_due erase left) None before later mid new
-        → GivesBack address used erase false before later old new
+        → TriedWhereDue address left (room && is_due erase left) None before later mid new
+        → GivesBack address room used erase false before later old new
     gives_back left before later old mid new given tried = record {
       found = given.found;
       entry = given.entry;
@@ -62,16 +62,17 @@ module _ {T : Type 0} where
     }
       where
         told : TriedWhereDue address (left_of used 1 given.found)
-            (is_due erase (left_of used 1 given.found)) None before later mid new
-        told = subst (λ x. TriedWhereDue address x (is_due erase x) None before later mid new)
+            (room && is_due erase (left_of used 1 given.found)) None before later mid new
+        told = subst (λ x. TriedWhereDue address x (room && is_due erase x) None before later mid
+            new)
             given.is tried
 
     -- a release that freed an entry, and settled what it freed
     pub gives_back_and_frees : (left charge : ℕ) (before later : Effort)
         (old mid end new : SeatOf T) → IsLeft address slot 1 name used left old mid
-        → TriedWhereDue address left (is_due erase left) (Some charge) before later mid end
+        → TriedWhereDue address left (room && is_due erase left) (Some charge) before later mid end
         → Adds end new
-        → GivesBack address used erase true before later old new
+        → GivesBack address room used erase true before later old new
     gives_back_and_frees left charge before later old mid end new given tried adds = record {
       found = given.found;
       entry = given.entry;
@@ -85,7 +86,8 @@ module _ {T : Type 0} where
     }
       where
         told : TriedWhereDue address (left_of used 1 given.found)
-            (is_due erase (left_of used 1 given.found)) (Some charge) before later mid end
+            (room && is_due erase (left_of used 1 given.found)) (Some charge) before later mid end
         told = subst
-            (λ x. TriedWhereDue address x (is_due erase x) (Some charge) before later mid end)
+            (λ x. TriedWhereDue address x (room && is_due erase x) (Some charge) before later mid
+            end)
             given.is tried

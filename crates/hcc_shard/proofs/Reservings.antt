@@ -42,14 +42,15 @@ use Rattle.hcc_charge.specs.Reserved.{Reserves, sweeping_between}
 use Rattle.hcc_charge.proofs.Askings.{between_is, keeps_by, keeps_then}
 use Rattle.hcc_shard.specs.declared.seat.ShardSeat.{ShardSeat}
 use Rattle.hcc_shard.specs.declared.shard.Shard.{Shard}
-use Rattle.hcc_shard.specs.Inserted.{RefusedBy, Tries, inserting, inserting_between}
+use Rattle.hcc_shard.specs.Inserted.{RefusedBy, Tries, inserting_listed, listed_between}
 use Rattle.hcc_shard.specs.Reserving.{CountsSlots, EndsBy, IsLeftFor, LeavesOut, PutsIn, Refuses, TriesEach, TriesFrom, left_out}
 
 -- Turns and what they took are within what an eviction may do.
-sweeping_within : (slots turns freed : ℕ) → turns ≤ most_turns slots → freed ≤ 4 * turns
-    → sweeping slots turns freed ≤ evicting slots
-sweeping_within slots turns freed few modest =
-    let most = mul-le-mul_left {m = freed} {n = 4 * most_turns slots} (slots + 4) (omega arith) in
+sweeping_within : (slots loads turns freed : ℕ) → turns ≤ most_turns slots → freed ≤ 4 * turns
+    → sweeping (slots + loads) turns freed ≤ evicting slots loads
+sweeping_within slots loads turns freed few modest =
+    let most = mul-le-mul_left {m = freed} {n = 4 * most_turns slots} (slots + loads + 4)
+    (omega arith) in
     omega arith
 
 module _ {T : Type 0} where
@@ -83,33 +84,35 @@ module _ {T : Type 0} where
   idle_tried v w t = keeps_by _ w v t.same refl refl refl refl
 
   -- An insertion's turns are few.
-  pub tries_within : {slots capacity : ℕ} {strict : Bool} {charge stamps : ℕ}
+  pub tries_within : {had has : Bool} {slots capacity : ℕ} {strict : Bool} {charge stamps : ℕ}
       {standalones : List Standalone} {records : List Record} {mades : List Made} {v w : View T}
-      → Tries slots capacity strict charge stamps standalones records mades v w
-      → sweeping_between slots v w ≤ evicting slots
-  tries_within {slots = slots} {v = v} {w = w} t =
-      rw (between_is slots t.shortage.swept.turns t.shortage.swept.slots v w
+      → Tries had has slots capacity strict charge stamps standalones records mades v w
+      → (loads : ℕ) → sweeping_between (slots + loads) v w ≤ evicting slots loads
+  tries_within {slots = slots} {v = v} {w = w} t loads =
+      rw (between_is (slots + loads) t.shortage.swept.turns t.shortage.swept.slots v w
       (ap (λ (z : View T). z.turns) t.same) (ap (λ (z : View T). z.takings) t.same))
-      (sweeping_within slots t.shortage.swept.turns t.shortage.swept.slots
+      (sweeping_within slots loads t.shortage.swept.turns t.shortage.swept.slots
       t.shortage.evicts.few t.shortage.evicts.modest.slots)
 
-  pub refused_within : (slots capacity : ℕ) (strict : Bool) (draft : Draft) (why : Refused)
-      (v w : View T) → RefusedBy slots capacity strict draft why v w
-      → sweeping_between slots v w ≤ evicting slots
-  refused_within slots capacity strict draft TooLarge v w told =
-      rw (between_is slots 0 0 v w (ap (λ (z : View T). z.turns) told.2 ∙ (omega arith))
+  pub refused_within : (had has : Bool) (slots capacity : ℕ) (strict : Bool) (draft : Draft)
+      (why : Refused) (v w : View T) → RefusedBy had has slots capacity strict draft why v w
+      → (loads : ℕ) → sweeping_between (slots + loads) v w ≤ evicting slots loads
+  refused_within had has slots capacity strict draft TooLarge v w told loads =
+      rw (between_is (slots + loads) 0 0 v w (ap (λ (z : View T). z.turns) told.2 ∙ (omega arith))
       (ap (λ (z : View T). z.takings) told.2 ∙ (omega arith))) (omega arith)
-  refused_within slots capacity strict draft CapacityFull v w told = tries_within told.0
-  refused_within slots capacity strict draft OccupancyFull v w told = tries_within told.0
+  refused_within had has slots capacity strict draft CapacityFull v w told loads =
+      tries_within told.0 loads
+  refused_within had has slots capacity strict draft OccupancyFull v w told loads =
+      tries_within told.0 loads
 
   -- The steps of an insertion: the reservation's, at most 7 for each slot that was visited, and
   -- what came behind them.
-  pub frees_by : (slots room visited : ℕ) (v a w : SeatOf T) (old new : Effort)
+  pub frees_by : (slots room loads visited : ℕ) (v a w : SeatOf T) (old new : Effort)
       → visited ≤ slots → Rose visited visited old.probes new.probes
-      → MakesAtMost (asking + sweeping_between slots (view v) (view a)) v a
+      → MakesAtMost (asking + sweeping_between (slots + loads) (view v) (view a)) v a
       → MakesAtMost (7 * visited + (slots + room + 3)) a w → EvictsNothing (view a) (view w)
-      → MakesFor 7 (inserting_between slots room (view v) (view w)) slots old new v w
-  frees_by slots room visited v a w old new within counted first behind idle = record {
+      → MakesFor 7 (listed_between slots room loads (view v) (view w)) slots old new v w
+  frees_by slots room loads visited v a w old new within counted first behind idle = record {
     visited = visited;
     within = within;
     counted = counted;
@@ -118,16 +121,17 @@ module _ {T : Type 0} where
         (omega arith);
   }
     where
-      same : sweeping_between slots (view v) (view w) ≡ sweeping_between slots (view v) (view a)
-      same = λ k. sweeping slots (idle.turns k - (view v).turns)
+      same : sweeping_between (slots + loads) (view v) (view w)
+          ≡ sweeping_between (slots + loads) (view v) (view a)
+      same = λ k. sweeping (slots + loads) (idle.turns k - (view v).turns)
           (idle.takings k - (view v).takings)
 
   -- They are within what an insertion may make, whatever it frees.
-  pub few_by : (slots room : ℕ) (v w : SeatOf T) (old new : Effort)
-      → MakesFor 7 (inserting_between slots room (view v) (view w)) slots old new v w
-      → sweeping_between slots (view v) (view w) ≤ evicting slots
-      → MakesAtMost (inserting slots room) v w
-  few_by slots room v w old new h few =
+  pub few_by : (slots room loads : ℕ) (v w : SeatOf T) (old new : Effort)
+      → MakesFor 7 (listed_between slots room loads (view v) (view w)) slots old new v w
+      → sweeping_between (slots + loads) (view v) (view w) ≤ evicting slots loads
+      → MakesAtMost (inserting_listed slots room loads) v w
+  few_by slots room loads v w old new h few =
       let visited = h.within in
       let steps = h.steps in
       omega arith
@@ -181,13 +185,13 @@ module _ {T A : Type 0} (shard : Shard T A) (draft : Draft) where
       (goes_event shard.table is_booking (stand_done draft.serial draft.charge (view h.1)) h.1 b
       h.3 refl)
 
-  module _ (fits : T → Key → List ℕ → Type 0) where
+  module _ (fits : T → Key → List ℕ → Type 0) (had has : Bool) where
     -- A refusal by the reservation.
     pub refuses : (why : Refused) (old new : ShardSeat T)
-        → EvictsBy fits shard.table draft.charge (Err why) old.tally new.tally
+        → EvictsBy fits shard.table draft.charge had has (Err why) old.tally new.tally
         old.effort new.effort old.seat new.seat
         → new.effort.probes ≡ old.effort.probes → new.boosts ≡ old.boosts
-        → Refuses fits shard draft why old new
+        → Refuses fits shard draft had has why old new
     refuses why old new evicts probes boosts = record {
       reserves = record {
         reserved = new.seat;
@@ -218,23 +222,24 @@ module _ {T A : Type 0} (shard : Shard T A) (draft : Draft) where
     -- The entry was put in a slot that was reserved for it.
     pub puts_in : {slots capacity : ℕ} {strict : Bool} {charge granted i : ℕ} {place : Place}
         (slot : ℕ) (value : List ℕ) (old mid new : ShardSeat T)
-        → Reserves slots capacity strict charge place granted (view old.seat) (view mid.seat)
+        → Reserves had has slots capacity strict charge place granted (view old.seat) (view
+        mid.seat)
         → Lost 0 (4 * most_turns (slots_of shard.table)) old.effort mid.effort
         → new.tally ≡ mid.tally
-        → EvictsBy fits shard.table draft.charge (Ok Reserved) old.tally mid.tally
+        → EvictsBy fits shard.table draft.charge had has (Ok Reserved) old.tally mid.tally
         old.effort mid.effort old.seat mid.seat
         → IsPlaced (slots_of shard.table) slot i draft value (view mid.seat) (view new.seat)
         → Ends (atomic (address_of_meta shard.table slot) (first_word draft) 0 (first_word draft))
         mid.seat new.seat
         → TriesEach fits shard draft (Placed slot) mid new
-        → new.boosts ≡ old.boosts → PutsIn fits shard draft slot old new
+        → new.boosts ≡ old.boosts → PutsIn fits shard draft had has slot old new
     unfolding tries_from
     puts_in {i = i} slot value old mid new r lost counts evicts told last tries boosts = record {
       reserves = record {
         reserved = mid.seat;
         counted = mid.effort;
         evicts =
-            subst (λ t. EvictsBy fits shard.table draft.charge (Ok Reserved) old.tally t
+            subst (λ t. EvictsBy fits shard.table draft.charge had has (Ok Reserved) old.tally t
             old.effort mid.effort old.seat mid.seat) (sym counts) evicts;
         idle = idle_placed slot draft value (view mid.seat) (view new.seat) told.tried;
         rest = λ less. ends_adds _ mid.seat new.seat last;
@@ -258,10 +263,11 @@ module _ {T A : Type 0} (shard : Shard T A) (draft : Draft) where
     -- It was put in none, though a place was reserved,
     pub leaves_reserved : {slots capacity : ℕ} {strict : Bool} {charge granted : ℕ} {place : Place}
         (matched keeps : Bool) (old mid between new : ShardSeat T)
-        → Reserves slots capacity strict charge place granted (view old.seat) (view mid.seat)
+        → Reserves had has slots capacity strict charge place granted (view old.seat) (view
+        mid.seat)
         → Lost 0 (4 * most_turns (slots_of shard.table)) old.effort mid.effort
         → new.tally ≡ mid.tally
-        → EvictsBy fits shard.table draft.charge (Ok Reserved) old.tally mid.tally
+        → EvictsBy fits shard.table draft.charge had has (Ok Reserved) old.tally mid.tally
         old.effort mid.effort old.seat mid.seat
         → Tried (view mid.seat) (view between.seat)
         → ((view between.seat).saw < (view mid.seat).saw + slots_of shard.table
@@ -273,7 +279,7 @@ module _ {T A : Type 0} (shard : Shard T A) (draft : Draft) where
         → EndsBy shard draft keeps Reserved between.seat new.seat
         → Rose (when matched 1) (when matched 1) old.boosts new.boosts
         → TriesEach fits shard draft (left_out matched) mid between → new.effort ≡ between.effort
-        → LeavesOut fits shard draft keeps old new
+        → LeavesOut fits shard draft had has keeps old new
     unfolding tries_from
     leaves_reserved matched keeps old mid between new r lost counts evicts tried adds why idle met
         saw behind ends boosts tries same = record {
@@ -283,7 +289,7 @@ module _ {T A : Type 0} (shard : Shard T A) (draft : Draft) where
             reserved = mid.seat;
             counted = mid.effort;
             evicts =
-                subst (λ t. EvictsBy fits shard.table draft.charge (Ok Reserved) old.tally t
+                subst (λ t. EvictsBy fits shard.table draft.charge had has (Ok Reserved) old.tally t
                 old.effort mid.effort old.seat mid.seat) (sym counts) evicts;
             idle =
                 keeps_then (view mid.seat) (view between.seat) (view new.seat)
@@ -310,13 +316,13 @@ module _ {T A : Type 0} (shard : Shard T A) (draft : Draft) where
     -- or no place was.
     pub leaves_unreserved : {slots capacity : ℕ} {strict : Bool} {charge granted : ℕ}
         {place : Place} (keeps : Bool) (old new : ShardSeat T) (a : SeatOf T)
-        → Reserves slots capacity strict charge place granted (view old.seat) (view a)
-        → EvictsBy fits shard.table draft.charge (Ok NoPlace) old.tally new.tally
+        → Reserves had has slots capacity strict charge place granted (view old.seat) (view a)
+        → EvictsBy fits shard.table draft.charge had has (Ok NoPlace) old.tally new.tally
         old.effort new.effort old.seat a
         → EvictsNothing (view a) (view new.seat) → (view new.seat).saw ≡ (view a).saw
         → Adds a new.seat → EndsBy shard draft keeps NoPlace a new.seat
         → new.effort.probes ≡ old.effort.probes → new.boosts ≡ old.boosts
-        → LeavesOut fits shard draft keeps old new
+        → LeavesOut fits shard draft had has keeps old new
     leaves_unreserved keeps old new a r evicts idle saw behind ends probes boosts = record {
       told = NoPlace;
       matched = false;

@@ -99,14 +99,14 @@ began_with fits table tag geometry capacity strict es within tags sizes capaciti
     ) within
 
 -- What a release leaves.
-module _ {T A : Type 0} (shard : Shard T A) (slot name : ℕ) (used erase freed : Bool)
-    (old new : ShardSeat T) (h : ReleasesAt shard slot name used erase freed old new) where
+module _ {T A : Type 0} (shard : Shard T A) (slot name : ℕ) (room used erase freed : Bool)
+    (old new : ShardSeat T) (h : ReleasesAt shard slot name room used erase freed old new) where
   -- where it freed nothing, all that is shown,
   pub release_stays : freed ≡ false → StaysAt shard old new
   release_stays none =
       goes_then shard.table is_still old.seat h.mid new.seat
-      (unfreed_still shard.table slot name used erase old.seat h.mid
-      (subst (λ o. ReleasesBy shard.table slot name used erase o old.seat h.mid)
+      (unfreed_still shard.table slot name room used erase old.seat h.mid
+      (subst (λ o. ReleasesBy shard.table slot name room used erase o old.seat h.mid)
       (no_charge h.charge (sym h.freed_is ∙ none)) h.releases))
       (settled_still shard.table h.mid new.seat h.settles)
     where
@@ -121,6 +121,6 @@ module _ {T A : Type 0} (shard : Shard T A) (slot name : ℕ) (used erase freed 
     | inl here ↦ still_shows shard.table one old.seat new.seat (release_stays (kept here)) s
     | inr other ↦
         settled_keeps shard.table one h.mid new.seat h.settles s
-        ∙ (releases_show shard.table one slot name used erase h.charge old.seat h.mid
+        ∙ (releases_show shard.table one slot name room used erase h.charge old.seat h.mid
         h.releases).others s other
   ]

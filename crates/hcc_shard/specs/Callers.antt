@@ -66,10 +66,10 @@ module _ {T A : Type 0} where
 
   -- The client of a seat gave a reference at this slot back, as a use or not, and tried to take the
   -- entry where that was due.
-  abbrev pub GivesBackAt : Shard T A → (slot : ℕ) → (used erase freed : Bool)
+  abbrev pub GivesBackAt : Shard T A → (slot : ℕ) → (room used erase freed : Bool)
       → (old new : ShardSeat T) → Type 0
-  GivesBackAt shard slot used erase freed old new =
-      GivesBack (address_of_meta shard.table slot) used erase freed old.effort new.effort
+  GivesBackAt shard slot room used erase freed old new =
+      GivesBack (address_of_meta shard.table slot) room used erase freed old.effort new.effort
       old.seat new.seat
 
 module _ {T A : Type 0} (fits : T → Key → List ℕ → Type 0) where
@@ -83,12 +83,12 @@ module _ {T A : Type 0} (fits : T → Key → List ℕ → Type 0) where
 
   -- An erasure of the key was made by the client of a seat: what it found and hid at each probe,
   -- and what it took. What settles that came behind it, and left what is dead to the client.
-  pub record ErasesAt (shard : Shard T A) (key : Key) (hidden : ℕ) (old new : ShardSeat T)
-      : Type 0 where
+  pub record ErasesAt (shard : Shard T A) (key : Key) (room : Bool) (hidden : ℕ)
+      (old new : ShardSeat T) : Type 0 where
     pub all : Erased
     pub hidden_is : all.hidden ≡ hidden
     pub mid : SeatOf T
-    pub hides : HidesAll fits shard.table key IN_FLIGHT all old.effort new.effort old.seat mid
+    pub hides : HidesAll fits shard.table key IN_FLIGHT room all old.effort new.effort old.seat mid
     pub taken : (view new.seat).takings ≡ (view old.seat).takings + all.slots
     -- the entries that it took are those that it freed, of that charge
     pub gone : Takes all.slots all.charge (view old.seat) (view new.seat)

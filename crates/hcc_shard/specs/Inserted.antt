@@ -28,13 +28,20 @@ use Rattle.hcc_shard.specs.declared.inserting.Pinned.TheVariants as pinned
 use Rattle.hcc_shard.specs.Seated.{IsNext}
 
 -- the most atomic steps of an insertion, whatever it frees: the reservation, the search for a slot,
--- and what gives back or keeps what was reserved
+-- and what gives back or keeps what was reserved; where so many loads put an entry on the list
+abbrev pub inserting_listed : (slots room loads : ℕ) → ℕ
+inserting_listed slots room loads = reserving slots loads + 8 * slots + room + 3
+
 abbrev pub inserting : (slots room : ℕ) → ℕ
-inserting slots room = reserving slots + 8 * slots + room + 3
+inserting slots room = inserting_listed slots room 0
 
 -- the most of its steps, beside 7 for each probe, by what the view counts as turned and taken
+abbrev pub listed_between : {T : Type 0} → (slots room loads : ℕ) → View T → View T → ℕ
+listed_between slots room loads v w =
+    sweeping_between (slots + loads) v w + slots + room + asking + 3
+
 abbrev pub inserting_between : {T : Type 0} → (slots room : ℕ) → View T → View T → ℕ
-inserting_between slots room v w = sweeping_between slots v w + slots + room + asking + 3
+inserting_between slots room v w = listed_between slots room 0 v w
 
 -- What a client has that may insert an entry: a value that is right for the key, a charge that
 -- isn't 0, a countdown of 1 to 3, and a serial above those before.
@@ -75,10 +82,10 @@ module _ {T : Type 0} where
   -- stamps, its standalone entries, its records and its made entries. It counts what its
   -- reservation found and evicted, which keys it met and how many slots it tried that weren't
   -- empty. None of the entries that it took was Shown with uses left. All else stays.
-  pub record Tries (slots capacity : ℕ) (strict : Bool) (charge stamps : ℕ)
+  pub record Tries (had has : Bool) (slots capacity : ℕ) (strict : Bool) (charge stamps : ℕ)
       (standalones : List Standalone) (records : List Record) (made : List Made)
       (v w : View T) : Type 0 where
-    pub shortage : Shortage slots capacity strict charge
+    pub shortage : Shortage had has slots capacity strict charge
     pub met : List Key
     pub tries : ℕ
     pub same : w ≡ record v {
@@ -112,12 +119,12 @@ module _ {T : Type 0} where
     -- which entries its reservation evicted
     pub taken : Takes shortage.swept.slots shortage.swept.charge v w
 
-  module _ (slots capacity : ℕ) (strict : Bool) (draft : Draft) where
+  module _ (had has : Bool) (slots capacity : ℕ) (strict : Bool) (draft : Draft) where
     -- The newest entry that the client made is this, on a slot of the shard, and it keeps a
     -- reference on it where the draft has a name.
     pub record Shows (value : List ℕ) (slot : ℕ) (v w : View T) : Type 0 where
       pub within : slot < slots
-      pub tries : Tries slots capacity strict draft.charge (v.work.stamps + 1)
+      pub tries : Tries had has slots capacity strict draft.charge (v.work.stamps + 1)
           v.work.standalones
           (v.records ++ first_records slot draft.name (shown_entry v (made_of draft value)))
           (v.made ++ made_of draft value ∷ []) v w
@@ -125,7 +132,7 @@ module _ {T : Type 0} where
     -- No entry was made, and these standalone entries stand.
     abbrev pub MakesNoEntry : List Standalone → View T → View T → Type 0
     MakesNoEntry standalones v w =
-        Tries slots capacity strict draft.charge v.work.stamps standalones v.records v.made
+        Tries had has slots capacity strict draft.charge v.work.stamps standalones v.records v.made
         v w
 
     -- nothing was placed, for one of the reasons

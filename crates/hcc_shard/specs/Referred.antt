@@ -69,21 +69,22 @@ module _ {T : Type 0} where
     pub taken : (charge : ℕ) × Takes freed charge v w
 
   -- The first step of a release gave its reference back, as a use or not, and found the word of an
-  -- entry with references. Where nobody held the entry then, and it was hidden or to be erased, the
-  -- next step was the exchange that takes it: that won just where an entry was freed, and else one
-  -- that lost is counted. Else the release made no other step.
-  pub record GivesBack (address : ℕ) (used erase freed : Bool) (before after : Effort)
+  -- entry with references. Where nobody held the entry then, it was hidden or to be erased, and the
+  -- list of what is freed had room, the next step was the exchange that takes it: that won just
+  -- where an entry was freed, and else one that lost is counted. Else the release made no other
+  -- step.
+  pub record GivesBack (address : ℕ) (room used erase freed : Bool) (before after : Effort)
       (old new : SeatOf T) : Type 0 where
     pub found : ℕ
     pub entry : is_shareable found ≡ true
     pub enough : 1 ≤ refs_of found
-    pub kept : is_due erase (left_of used 1 found) ≡ false
+    pub kept : (room && is_due erase (left_of used 1 found)) ≡ false
         → (freed ≡ false) × Makes address (amount_of used 1) 0 found old new
-    pub lost : is_due erase (left_of used 1 found) ≡ true → freed ≡ false
+    pub lost : (room && is_due erase (left_of used 1 found)) ≡ true → freed ≡ false
         → (other : ℕ) × ¬ (other ≡ left_of used 1 found)
         × MakesTwo (giving address used found) (taking address used found other) old new
-    pub won : is_due erase (left_of used 1 found) ≡ true → freed ≡ true
+    pub won : (room && is_due erase (left_of used 1 found)) ≡ true → freed ≡ true
         → BeginsWithTwo (giving address used found)
         (taking address used found (left_of used 1 found)) old new
-    pub counted : Lost (lost_of (is_due erase (left_of used 1 found)) freed)
-        (lost_of (is_due erase (left_of used 1 found)) freed) before after
+    pub counted : Lost (lost_of (room && is_due erase (left_of used 1 found)) freed)
+        (lost_of (room && is_due erase (left_of used 1 found)) freed) before after

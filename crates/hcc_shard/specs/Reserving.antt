@@ -62,18 +62,6 @@ module _ {T A : Type 0} (shard : Shard T A) (draft : Draft) where
       StandsBy shard.table false draft.serial draft.charge old new
 
 module _ {T A : Type 0} (fits : T → Key → List ℕ → Type 0) (shard : Shard T A) (draft : Draft) where
-  -- An insertion began with a reservation, which answered this, evicted just for what it asks,
-  -- counted the exchanges that its eviction lost, and ended at this seat. What came behind it
-  -- evicted nothing; and where it saw fewer slots taken than there are, it only added steps.
-  pub record ReservedAs (answer : Result Reservation Refused) (old new : ShardSeat T) : Type 0 where
-    pub reserved : SeatOf T
-    pub counted : Effort
-    pub evicts : EvictsBy fits shard.table draft.charge answer old.tally new.tally
-        old.effort counted old.seat reserved
-    pub idle : EvictsNothing (view reserved) (view new.seat)
-    pub rest : (view new.seat).saw < (view old.seat).saw + slots_of shard.table
-        → Adds reserved new.seat
-
   -- The probes of the key were tried, one after the other: what was found at each, by the answer,
   -- and how the counts rose.
   pub record TriesEach (answer : Insertion) (old new : ShardSeat T) : Type 0 where
@@ -102,6 +90,20 @@ module _ {T A : Type 0} (fits : T → Key → List ℕ → Type 0) (shard : Shar
   tried_last Reserved reserved counted answer new tries = tries.done
   tried_last NoPlace reserved counted answer new tries = reserved
 
+module _ {T A : Type 0} (fits : T → Key → List ℕ → Type 0) (shard : Shard T A) (draft : Draft)
+    (had has : Bool) where
+  -- An insertion began with a reservation, which answered this, evicted just for what it asks,
+  -- counted the exchanges that its eviction lost, and ended at this seat. What came behind it
+  -- evicted nothing; and where it saw fewer slots taken than there are, it only added steps.
+  pub record ReservedAs (answer : Result Reservation Refused) (old new : ShardSeat T) : Type 0 where
+    pub reserved : SeatOf T
+    pub counted : Effort
+    pub evicts : EvictsBy fits shard.table draft.charge had has answer old.tally new.tally
+        old.effort counted old.seat reserved
+    pub idle : EvictsNothing (view reserved) (view new.seat)
+    pub rest : (view new.seat).saw < (view old.seat).saw + slots_of shard.table
+        → Adds reserved new.seat
+
   -- The entry was put in this slot, probe i of its key: the i probes before it were taken, and each
   -- entry of the key that the client holds there is dead to it. The last step showed the entry by
   -- the word that its draft says.
@@ -115,7 +117,7 @@ module _ {T A : Type 0} (fits : T → Key → List ℕ → Type 0) (shard : Shar
     pub last : Ends
         (atomic (address_of_meta shard.table slot) (first_word draft) 0 (first_word draft))
         reserves.reserved new.seat
-    pub tries : TriesFrom reserves.reserved reserves.counted (Placed slot) new
+    pub tries : TriesFrom fits shard draft reserves.reserved reserves.counted (Placed slot) new
     pub ends : new.seat ≡ tries.done
     pub probes : CountsSlots (Placed slot) old new
     pub boosts : new.boosts ≡ old.boosts
@@ -127,9 +129,11 @@ module _ {T A : Type 0} (fits : T → Key → List ℕ → Type 0) (shard : Shar
     pub matched : Bool
     pub reserves : ReservedAs (Ok told) old new
     pub why : IsLeftFor shard draft told matched old new
-    pub tries : TriesWhere told reserves.reserved reserves.counted (left_out matched) new
+    pub tries : TriesWhere fits shard draft told reserves.reserved reserves.counted (left_out
+        matched) new
     pub ends : EndsBy shard draft keeps told
-        (tried_last told reserves.reserved reserves.counted (left_out matched) new tries) new.seat
+        (tried_last fits shard draft told reserves.reserved reserves.counted (left_out matched) new
+        tries) new.seat
     pub probes : CountsSlots (left_out matched) old new
     pub boosts : Rose (when matched 1) (when matched 1) old.boosts new.boosts
 

@@ -46,12 +46,12 @@ module _ {T A : Type 0} (shard : Shard T A) where
 
   -- A release by its events: the reference was given back, and the entry taken or not; what was
   -- freed was settled behind that.
-  pub record ReleasesAt (slot name : ℕ) (used erase freed : Bool) (old new : ShardSeat T)
+  pub record ReleasesAt (slot name : ℕ) (room used erase freed : Bool) (old new : ShardSeat T)
       : Type 0 where
     pub charge : Option ℕ
     pub freed_is : freed ≡ is_some charge
     pub mid : SeatOf T
-    pub releases : ReleasesBy shard.table slot name used erase charge old.seat mid
+    pub releases : ReleasesBy shard.table slot name room used erase charge old.seat mid
     pub settles : GoesOnBy shard.table is_settling mid new.seat
 
   -- the entries with which the shard began keep their limits

@@ -11,14 +11,15 @@ ghost use Rattle.hcc_rule.specs.Seats.{atomic, IsSameSeat, view};
 ghost use Rattle.hcc_rule.specs.ToldOwners.{first_word};
 ghost use Rattle.hcc_table.specs.declared.inserting.Insertion.TheVariants.{Placed};
 ghost use Rattle.hcc_table.specs.Efforts.{Took};
+ghost use Rattle.hcc_table.specs.Lists.{Hands};
 ghost use Rattle.hcc_table.specs.Rises.{Rose};
 ghost use Rattle.hcc_table.specs.Inserted.{MayInsert};
 ghost use Rattle.hcc_table.specs.Steps.{Adds, Ends, MakesAtMost, MakesFor};
 ghost use Rattle.hcc_charge.specs.declared.reserving.Refused.TheVariants.{TooLarge};
 ghost use Rattle.hcc_charge.specs.declared.reserving.Reservation.TheVariants.{Reserved};
-ghost use Rattle.hcc_charge.specs.Evicted.{most_turns};
+ghost use Rattle.hcc_charge.specs.Evicted.{most_turns, turn_room};
 ghost use Rattle.hcc_charge.specs.Settled.{HasFreedNothing, KeepsAlone, stood, without_place};
-ghost use Rattle.hcc_shard.specs.Inserted.{InsertedBy, IsInsertable, PinnedBy, PutBy, inserting, inserting_between};
+ghost use Rattle.hcc_shard.specs.Inserted.{InsertedBy, IsInsertable, PinnedBy, PutBy, inserting_listed, listed_between};
 ghost use Rattle.hcc_shard.specs.Reserving.{InsertedAs, IsLeftFor, PinnedAs, TriesEach, left_out};
 ghost use Rattle.hcc_shard.specs.Seated.{Rests};
 ghost use Rattle.hcc_shard.specs.Stays.{ShowsIn};
@@ -29,7 +30,7 @@ use crate::seat::ShardSeat;
 use crate::shard::Shard;
 use hcc_charge::{Refused, Reservation, give_up, keep_charge, reserve, standalone_in};
 use hcc_rule::{Draft, RuleSeat, RuleTable, Tag};
-use hcc_table::{Insertion, Pin, insert};
+use hcc_table::{FreedList, Insertion, Pin, insert};
 use std::alloc::Allocator;
 
 /// What came of an insertion that keeps no reference.
@@ -67,23 +68,30 @@ impl<T: Tag, A: Allocator> Shard<T, A> {
     /// that was met is counted among the boosts, and each exchange that its eviction lost is
     /// counted once.
     ///
+    /// What the eviction frees is put on the list. No turn of the hand is made where that has room
+    /// for fewer than four entries.
+    ///
     /// The draft has no name, and its serial is above those before. It allocates nothing. It costs
     /// a reservation, and where that is granted each probe of the key as a search does, a store for
     /// each word of the entry, and two subtractions where it is dropped. With L slots and values of
     /// W words that is at most 9 steps a turn, L + 4 for each slot that turns free, 7 a probe, and
     /// L + W + 8.
-    pub fn insert(
+    pub fn insert<L: FreedList<T>>(
         &self,
         seat: &mut ShardSeat<T>,
         draft: Draft,
         value: &[u8],
+        list: &mut L,
     ) -> Result<Inserted, Refused>
         requires seat { Rests self.now seat.old }
         requires may { IsInsertable T.fits (plan_of self.now.table) draft value.now
             (view seat.old.seat) }
         requires unnamed { draft.name ≡ None }
         ensures seat { Rests self.now seat.new }
-        ensures view { InsertedBy (slots_of self.now.table) (capacity_of self.now.table)
+        ensures list { Hands (L.shelf list.old) (L.shelf list.new)
+            (view seat.old.seat) (view seat.new.seat) }
+        ensures view { InsertedBy (turn_room (L.shelf list.old)) (turn_room (L.shelf list.new))
+            (slots_of self.now.table) (capacity_of self.now.table)
             (is_strict self.now.table) draft value.now result
             (view seat.old.seat) (view seat.new.seat) }
         ensures large { is_strict self.now.table ≡ true → capacity_of self.now.table < draft.charge
@@ -91,20 +99,23 @@ impl<T: Tag, A: Allocator> Shard<T, A> {
         ensures effort { Took 0 (slots_of self.now.table)
             (4 * most_turns (slots_of self.now.table) + slots_of self.now.table)
             seat.old.effort seat.new.effort }
-        ensures evicts { InsertedAs T.fits self.now draft result seat.old seat.new }
+        ensures evicts { InsertedAs T.fits self.now draft
+            (turn_room (L.shelf list.old)) (turn_room (L.shelf list.new))
+            result seat.old seat.new }
         ensures shown { clients_of self.now.table ≡ 1 → result ≡ Ok inserted.Placed
             → (slot : ℕ) × ShowsIn self.now draft.key slot seat.new }
-        ensures frees { MakesFor 7 (inserting_between (slots_of self.now.table)
-            (room_of self.now.table) (view seat.old.seat) (view seat.new.seat))
+        ensures frees { MakesFor 7 (listed_between (slots_of self.now.table)
+            (room_of self.now.table) L.loads (view seat.old.seat) (view seat.new.seat))
             (slots_of self.now.table) seat.old.effort seat.new.effort
             seat.old.seat seat.new.seat }
-        ensures steps { MakesAtMost (inserting (slots_of self.now.table) (room_of self.now.table))
-            seat.old.seat seat.new.seat }
+        ensures steps { MakesAtMost (inserting_listed (slots_of self.now.table)
+            (room_of self.now.table) L.loads) seat.old.seat seat.new.seat }
     {
         let reserved = reserve(
             &self.table,
             &mut seat.seat,
             draft.charge,
+            list,
             &mut seat.tally,
             &mut seat.effort,
         )?;
@@ -127,11 +138,12 @@ impl<T: Tag, A: Allocator> Shard<T, A> {
     /// The draft's name is its serial, which is above those before. The client holds fewer than
     /// 16,384 references, and has fewer standalone entries. It allocates nothing. It costs what
     /// `insert` does, and where no place was found two adds more.
-    pub fn insert_pinned(
+    pub fn insert_pinned<L: FreedList<T>>(
         &self,
         seat: &mut ShardSeat<T>,
         draft: Draft,
         value: &[u8],
+        list: &mut L,
     ) -> Result<Pinned, Refused>
         requires seat { Rests self.now seat.old }
         requires may { IsInsertable T.fits (plan_of self.now.table) draft value.now
@@ -140,7 +152,10 @@ impl<T: Tag, A: Allocator> Shard<T, A> {
         requires few { length (view seat.old.seat).records < MOST_HANDLES }
         requires alone { length (view seat.old.seat).work.standalones < MOST_HANDLES }
         ensures seat { Rests self.now seat.new }
-        ensures view { PinnedBy (slots_of self.now.table) (capacity_of self.now.table)
+        ensures list { Hands (L.shelf list.old) (L.shelf list.new)
+            (view seat.old.seat) (view seat.new.seat) }
+        ensures view { PinnedBy (turn_room (L.shelf list.old)) (turn_room (L.shelf list.new))
+            (slots_of self.now.table) (capacity_of self.now.table)
             (is_strict self.now.table) draft value.now result
             (view seat.old.seat) (view seat.new.seat) }
         ensures large { is_strict self.now.table ≡ true → capacity_of self.now.table < draft.charge
@@ -148,20 +163,23 @@ impl<T: Tag, A: Allocator> Shard<T, A> {
         ensures effort { Took 0 (slots_of self.now.table)
             (4 * most_turns (slots_of self.now.table) + slots_of self.now.table)
             seat.old.effort seat.new.effort }
-        ensures evicts { PinnedAs T.fits self.now draft result seat.old seat.new }
+        ensures evicts { PinnedAs T.fits self.now draft
+            (turn_room (L.shelf list.old)) (turn_room (L.shelf list.new))
+            result seat.old seat.new }
         ensures shown { clients_of self.now.table ≡ 1 → (pin : Pin)
             → result ≡ Ok (pinned.Placed pin) → ShowsIn self.now draft.key pin.slot seat.new }
-        ensures frees { MakesFor 7 (inserting_between (slots_of self.now.table)
-            (room_of self.now.table) (view seat.old.seat) (view seat.new.seat))
+        ensures frees { MakesFor 7 (listed_between (slots_of self.now.table)
+            (room_of self.now.table) L.loads (view seat.old.seat) (view seat.new.seat))
             (slots_of self.now.table) seat.old.effort seat.new.effort
             seat.old.seat seat.new.seat }
-        ensures steps { MakesAtMost (inserting (slots_of self.now.table) (room_of self.now.table))
-            seat.old.seat seat.new.seat }
+        ensures steps { MakesAtMost (inserting_listed (slots_of self.now.table)
+            (room_of self.now.table) L.loads) seat.old.seat seat.new.seat }
     {
         let reserved = reserve(
             &self.table,
             &mut seat.seat,
             draft.charge,
+            list,
             &mut seat.tally,
             &mut seat.effort,
         )?;

@@ -327,7 +327,7 @@ module _ {T A : Type 0} (shard : Shard T A) (old : ShardSeat T) (pins : List Pin
     -- an insertion that showed no entry
     unmade : {slots capacity : ℕ} {strict : Bool} {charge stamps : ℕ}
         {standalones : List Standalone}
-        → Tries slots capacity strict charge stamps standalones v.records v.made v w
+        → Tries true true slots capacity strict charge stamps standalones v.records v.made v w
         → standalones ≡ v.work.standalones → IsAlike v w
     unmade t same = record {
       others = ap (λ (z : View T). z.others) t.same;
@@ -337,7 +337,7 @@ module _ {T A : Type 0} (shard : Shard T A) (old : ShardSeat T) (pins : List Pin
     }
 
     module _ (slots capacity : ℕ) (strict : Bool) (draft : Draft) where
-      pub refused_guest : (why : Refused) → RefusedBy slots capacity strict draft why v w
+      pub refused_guest : (why : Refused) → RefusedBy true true slots capacity strict draft why v w
           → IsGuest shard new pins standing (next + 1)
       refused_guest TooLarge h = guest_same (next + 1) (omega arith) (record {
         others = ap (λ (z : View T). z.others) h.2;
@@ -350,14 +350,14 @@ module _ {T A : Type 0} (shard : Shard T A) (old : ShardSeat T) (pins : List Pin
 
       -- an entry was shown under the next serial
       shown_above : (value : List ℕ) (slot : ℕ) → draft.serial ≡ next
-          → Shows slots capacity strict draft value slot v w → IsAbove (next + 1) w.made
+          → Shows true true slots capacity strict draft value slot v w → IsAbove (next + 1) w.made
       shown_above value slot serial h =
           rw (ap (λ (z : View T). z.made) h.tries.same)
           (above_more next v.made (made_of draft value) serial g.counted.above)
 
       -- an entry was shown, and no reference on it is kept
       shown_guest : (value : List ℕ) (slot : ℕ) → draft.name ≡ None → draft.serial ≡ next
-          → Shows slots capacity strict draft value slot v w
+          → Shows true true slots capacity strict draft value slot v w
           → IsGuest shard new pins standing (next + 1)
       shown_guest value slot none serial h = record {
         rests = rests;
@@ -386,7 +386,7 @@ module _ {T A : Type 0} (shard : Shard T A) (old : ShardSeat T) (pins : List Pin
               ∙ append-nil v.records)
 
       pub inserted_guest : (value : List ℕ) (answer : Result Inserted Refused) → draft.name ≡ None
-          → draft.serial ≡ next → InsertedBy slots capacity strict draft value answer v w
+          → draft.serial ≡ next → InsertedBy true true slots capacity strict draft value answer v w
           → IsGuest shard new pins standing (next + 1)
       inserted_guest value (Ok inserted.Placed) none serial h =
           shown_guest value h.0 none serial h.1
@@ -397,7 +397,7 @@ module _ {T A : Type 0} (shard : Shard T A) (old : ShardSeat T) (pins : List Pin
       -- one that keeps a reference
       pub pinned_guest : (value : List ℕ) (pin : Pin) → draft.name ≡ Some draft.serial
           → draft.serial ≡ next
-          → Shows slots capacity strict draft value pin.slot v w → pin.name ≡ draft.serial
+          → Shows true true slots capacity strict draft value pin.slot v w → pin.name ≡ draft.serial
           → pin.counting ≡ true → IsGuest shard new (pins ++ pin ∷ []) standing (next + 1)
       pinned_guest value pin named serial h called counts =
           guest_more (record {
@@ -421,7 +421,8 @@ module _ {T A : Type 0} (shard : Shard T A) (old : ShardSeat T) (pins : List Pin
           (λ k. record { name = called k; slot = pin.slot; counting = counts k })
 
       pub standing_guest : draft.serial ≡ next
-          → IsUnshown slots capacity strict draft (with_draft draft v.work.standalones) v w
+          → IsUnshown true true slots capacity strict draft (with_draft draft v.work.standalones) v
+          w
           → IsGuest shard new pins
           (standing ++ record { name = draft.serial; charge = draft.charge } ∷ []) (next + 1)
       standing_guest serial h =

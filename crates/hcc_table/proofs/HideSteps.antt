@@ -1,5 +1,5 @@
 -- What hiding does at the probes of a key, one after the other.
-use Rattle.std.proofs.Common.{◌≡◌, ℕ, ◌+◌, ◌<◌, ◌++◌, List, [], ◌∷◌, Option, Some, None, IfSome, true, inl, inr, length, sym, subst, refl, ap, ◌∙◌, arith}
+use Rattle.std.proofs.Common.{◌≡◌, ℕ, ◌+◌, ◌<◌, ◌++◌, Bool, List, [], ◌∷◌, Option, Some, None, IfSome, true, inl, inr, length, sym, subst, refl, ap, ◌∙◌, arith}
 use Rattle.hcc_core.specs.declared.slot.Stamp.{Stamp}
 use Rattle.hcc_core.specs.Lawful.{is_in}
 use Rattle.hcc_core.specs.Sums.{total}
@@ -31,8 +31,10 @@ module _ {T A : Type 0} (fits : T → Key → List ℕ → Type 0) (table : Rule
   abbrev Goes : HideProbe → Type 0
   Goes p = ¬ (p.found.displacement ≡ 0)
 
-  -- So many probes were visited, this was done there, and at each a trail goes on.
-  pub record HasHid (i : ℕ) (all : Erased) (before after : Effort) (old now : SeatOf T)
+  -- So many probes were visited, this was done there, and at each a trail goes on. The list had
+  -- room at each, where it has room now.
+  pub record HasHid (i : ℕ) (room : Bool) (all : Erased) (before after : Effort) (old now : SeatOf
+      T)
       : Type 0 where
     pub visits : HasSeen (slots_of table) key (HidAt fits table key name) Goes i before after old
         now
@@ -40,23 +42,26 @@ module _ {T A : Type 0} (fits : T → Key → List ℕ → Type 0) (table : Rule
     pub slots : all.slots ≡ total (λ (p : HideProbe). p.done.slots) visits.seen
     pub charge : all.charge ≡ total (λ (p : HideProbe). p.done.charge) visits.seen
     pub dead : Each (IsDeadIn (view now).work.dead) visits.seen
+    pub roomy : Each (λ (p : HideProbe). room ≡ true → p.room ≡ true) visits.seen
 
-  pub hid_none : (effort : Effort) (seat : SeatOf T)
-      → HasHid 0 nothing_erased effort effort seat seat
-  hid_none effort seat = record {
+  pub hid_none : (room : Bool) (effort : Effort) (seat : SeatOf T)
+      → HasHid 0 room nothing_erased effort effort seat seat
+  hid_none room effort seat = record {
     visits = seen_none (slots_of table) key (HidAt fits table key name) Goes effort seat;
     hidden = refl;
     slots = refl;
     charge = refl;
     dead = tt;
+    roomy = tt;
   }
 
-  module _ (i slot word n : ℕ) (caught : Option Stamp) (all here sum : Erased)
+  module _ (i slot word n : ℕ) (room left : Bool) (caught : Option Stamp) (all here sum : Erased)
       (e counted f : Effort)
-      (old now mid new : SeatOf T) (h : HasHid i all e f old now)
+      (old now mid new : SeatOf T) (h : HasHid i room all e f old now)
+      (down : left ≡ true → room ≡ true)
       (there : slot ≡ probe_slot (slots_of table) key i) (g : Effort)
       (visited : VisitedSlots 1 f counted)
-      (does : PassesOrHides fits table key name slot word caught here counted g now mid)
+      (does : PassesOrHides fits table key name room slot word caught here counted g now mid)
       (is_sum : (sum.hidden ≡ all.hidden + here.hidden) × (sum.slots ≡ all.slots + here.slots)
       × (sum.charge ≡ all.charge + here.charge))
       (counts : Makes (address_of_displacement table slot) 0 0 n mid new)
@@ -66,6 +71,7 @@ module _ {T A : Type 0} (fits : T → Key → List ℕ → Type 0) (table : Rule
     abbrev probe : HideProbe
     probe = record {
       found = record { word = word; displacement = n };
+      room = room;
       caught = caught;
       done = here;
     }
@@ -109,8 +115,15 @@ module _ {T A : Type 0} (fits : T → Key → List ℕ → Type 0) (table : Rule
         (each_map (IsDeadIn (view now).work.dead) (IsDeadIn (view mid).work.dead)
         (λ p. grown p.caught) h.visits.seen h.dead) (buried, tt))
 
+    roomy_more : Each (λ (p : HideProbe). left ≡ true → p.room ≡ true) (h.visits.seen ++ probe ∷ [])
+    roomy_more =
+        each_append (λ (p : HideProbe). left ≡ true → p.room ≡ true) h.visits.seen (probe ∷ [])
+        (each_map (λ (p : HideProbe). room ≡ true → p.room ≡ true)
+        (λ (p : HideProbe). left ≡ true → p.room ≡ true) (λ p had some. had (down some))
+        h.visits.seen h.roomy) (down, tt)
+
     -- It goes on,
-    pub hid_then : ¬ (n ≡ 0) → HasHid (i + 1) sum e g old new
+    pub hid_then : ¬ (n ≡ 0) → HasHid (i + 1) left sum e g old new
     hid_then some = record {
       visits = seen_then (slots_of table) key (HidAt fits table key name) Goes i slot probe e f g
           old now new h.visits there at some;
@@ -118,10 +131,11 @@ module _ {T A : Type 0} (fits : T → Key → List ℕ → Type 0) (table : Rule
       slots = slots_more;
       charge = charge_more;
       dead = dead_more;
+      roomy = roomy_more;
     }
 
     -- or ends here.
-    pub hides_here : n ≡ 0 → HidesAll fits table key name sum e g old new
+    pub hides_here : n ≡ 0 → HidesAll fits table key name left sum e g old new
     hides_here none = record {
       earlier = h.visits.seen;
       last = probe;
@@ -133,13 +147,14 @@ module _ {T A : Type 0} (fits : T → Key → List ℕ → Type 0) (table : Rule
       slots = slots_more;
       charge = charge_more;
       dead = dead_more;
+      roomy = roomy_more;
     }
 
   -- It ends after all probes.
-  pub hides_every : (i : ℕ) (all : Erased) (e f : Effort) (old now : SeatOf T)
-      → HasHid i all e f old now → 0 < i → i ≡ slots_of table
-      → HidesAll fits table key name all e f old now
-  hides_every i all e f old now h some whole = record {
+  pub hides_every : (i : ℕ) (room : Bool) (all : Erased) (e f : Effort) (old now : SeatOf T)
+      → HasHid i room all e f old now → 0 < i → i ≡ slots_of table
+      → HidesAll fits table key name room all e f old now
+  hides_every i room all e f old now h some whole = record {
     earlier = split.0;
     last = split.1;
     probes =
@@ -154,6 +169,9 @@ module _ {T A : Type 0} (fits : T → Key → List ℕ → Type 0) (table : Rule
     charge = h.charge ∙ ap (total (λ (p : HideProbe). p.done.charge)) split.2;
     dead =
         subst (λ (ps : List HideProbe). Each (IsDeadIn (view now).work.dead) ps) split.2 h.dead;
+    roomy = subst (λ (ps : List HideProbe). Each (λ (p : HideProbe). room ≡ true → p.room ≡ true)
+        ps)
+        split.2 h.roomy;
   }
     where
       split : (before : List HideProbe) × (last : HideProbe)

@@ -304,13 +304,13 @@ module _ {T A : Type 0} (table : RuleTable T A) (one : clients_of table ≡ 1) w
         was false lacks = refl
 
     -- What was hidden, and tried to take then.
-    held_loses : (slot name : ℕ) (done : Erased) (e f : Effort) (a b : SeatOf T)
-        → slot < slots_of table → HidesHeld table slot name done e f a b
+    held_loses : (slot name : ℕ) (room : Bool) (done : Erased) (e f : Effort) (a b : SeatOf T)
+        → slot < slots_of table → HidesHeld table slot name room done e f a b
         → IsSomeAnd (record_in name (view a).records)
         (λ r. (r.slot ≡ slot) × (key_of r.entry ≡ key))
         → Loses (slots_of table) key done.hidden (world_at table a) (world_at table b)
         × (shown_at (world_at table b) slot ≡ None)
-    held_loses slot name done e f a b low h holds =
+    held_loses slot name room done e f a b low h holds =
         let r = some_and (record_in name (view a).records) _ holds in
         let hid = hid_loses slot name h.found a h.hid low h.event h.told r.0 r.1 r.2.0 r.2.1 in (
           subst (λ n. Loses (slots_of table) key n (world_at table a) (world_at table b)) count
@@ -343,7 +343,7 @@ module _ {T A : Type 0} (table : RuleTable T A) (one : clients_of table ≡ 1) w
         rest none s =
             last h.freed refl s
             ∙ takes_keep slot (bit_and h.found HIDING_MASK) (Some name)
-            (is_alone (bit_and h.found HIDING_MASK)) h.freed h.hid h.tried h.takes none s
+            (room && is_alone (bit_and h.found HIDING_MASK)) h.freed h.hid h.tried h.takes none s
 
     module _ (fits : T → Key → List ℕ → Type 0) (name : ℕ) where
       catches_seek : (slot word : ℕ) (e f : Effort) (a b : SeatOf T)
@@ -356,12 +356,12 @@ module _ {T A : Type 0} (table : RuleTable T A) (one : clients_of table ≡ 1) w
           (reached_seeks table slot 1 name word h.looked h.mid h.reaches.by)) h.seeks)
 
       -- What was done at one slot: there nothing shows the key any more.
-      passed_loses : (slot word : ℕ) (caught : Option Stamp) (done : Erased) (e f : Effort)
-          (a b : SeatOf T)
-          → slot < slots_of table → PassesOrHides fits table key name slot word caught done e f a b
+      passed_loses : (room : Bool) (slot word : ℕ) (caught : Option Stamp) (done : Erased)
+          (e f : Effort) (a b : SeatOf T) → slot < slots_of table
+          → PassesOrHides fits table key name room slot word caught done e f a b
           → Loses (slots_of table) key done.hidden (world_at table a) (world_at table b)
           × ¬ ShowsKey (world_at table b) key slot
-      passed_loses slot word caught done e f a b low (inl passes) =
+      passed_loses room slot word caught done e f a b low (inl passes) =
           let seeks = passes_seek fits table key name slot word e f a b passes.0 in
           let stays = loses_same (slots_of table) key (world_at table a) (world_at table b)
           (alone_shows table one a b seeks) in (
@@ -372,9 +372,9 @@ module _ {T A : Type 0} (table : RuleTable T A) (one : clients_of table ≡ 1) w
                 (passes_lack fits table key name a b slot word e f a b (led_none table a)
                 (seeks_none table b) passes.0)),
           )
-      passed_loses slot word caught done e f a b low (inr h) =
+      passed_loses room slot word caught done e f a b low (inr h) =
           let seeks = catches_seek slot word e h.between a h.held h.catches in
-          let hid = held_loses slot name done h.between f h.held b low h.hides h.holds in (
+          let hid = held_loses slot name room done h.between f h.held b low h.hides h.holds in (
             subst (λ n. Loses (slots_of table) key n (world_at table a) (world_at table b))
                 (zero-add done.hidden)
                 (loses_then (slots_of table) key 0 done.hidden (world_at table a)
@@ -389,7 +389,7 @@ module _ {T A : Type 0} (table : RuleTable T A) (one : clients_of table ≡ 1) w
           → Loses (slots_of table) key p.done.hidden (world_at table a) (world_at table b)
           × ¬ ShowsKey (world_at table b) key slot
       hid_at_loses slot p e f a b low h =
-          let done = passed_loses slot p.found.word p.caught p.done h.between f a h.mid low
+          let done = passed_loses p.room slot p.found.word p.caught p.done h.between f a h.mid low
           h.does in
           let stays = loses_same (slots_of table) key (world_at table h.mid) (world_at table b)
           (alone_shows table one h.mid b
@@ -465,8 +465,8 @@ module _ {T A : Type 0} (table : RuleTable T A) (one : clients_of table ≡ 1) w
           on : i + 1 + length ps ≡ i + suc (length ps)
           on = omega arith
 
-      module _ (all : Erased) (before after : Effort) (old new : SeatOf T)
-          (m : HidesAll fits table key name all before after old new) where
+      module _ (room : Bool) (all : Erased) (before after : Effort) (old new : SeatOf T)
+          (m : HidesAll fits table key name room all before after old new) where
         -- where no trail went on, no later probe shows the key
         beyond_none : (i : ℕ) → length m.earlier < i → i < slots_of table
             → m.last.found.displacement ≡ 0

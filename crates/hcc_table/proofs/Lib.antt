@@ -1,6 +1,7 @@
 pub mod Rises
 pub mod Logs
 pub mod Searches
+pub mod Handed
 pub mod Seeking
 pub mod Reaches
 pub mod Probes

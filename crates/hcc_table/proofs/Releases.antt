@@ -1,5 +1,5 @@
 -- What a release leaves of what a shard of one client shows.
-use Rattle.std.proofs.Common.{◌≡◌, ◌≢◌, ℕ, Bool, true, false, Option, Some, None, Ok, slice_get, sym, refl, ap, ◌∙◌, subst}
+use Rattle.std.proofs.Common.{◌&&◌, ◌≡◌, ◌≢◌, ℕ, Bool, true, false, Option, Some, None, Ok, slice_get, sym, refl, ap, ◌∙◌, subst}
 use Rattle.std.specs.Prelude.{IfNone, IfSome, option_and_then}
 use Rattle.hcc_core.specs.declared.client.Client.{Client}
 use Rattle.hcc_core.specs.declared.client.Owned.TheVariants as owned
@@ -74,12 +74,13 @@ gives_still table false slot weight name left a b h =
     goes_event table is_still (give_done weight name h.0 (view a)) a b h.2 refl
 
 -- A release that freed nothing.
-pub unfreed_still : {T A : Type 0} (table : RuleTable T A) (slot name : ℕ) (used erase : Bool)
-    (a b : SeatOf T) → ReleasesBy table slot name used erase None a b → GoesOnStill table a b
-unfreed_still table slot name used erase a b h =
+pub unfreed_still : {T A : Type 0} (table : RuleTable T A) (slot name : ℕ)
+    (room used erase : Bool) (a b : SeatOf T) → ReleasesBy table slot name room used erase None a b
+    → GoesOnStill table a b
+unfreed_still table slot name room used erase a b h =
     goes_then table is_still a h.between b
     (gives_still table used slot 1 name h.left a h.between h.gives)
-    (by (is_due erase h.left) h.takes)
+    (by (room && is_due erase h.left) h.takes)
   where
     by : (due : Bool) → TakesByWhereDue table slot h.left None due None h.between b
         → GoesOnStill table h.between b
@@ -150,10 +151,10 @@ module _ {T A : Type 0} (table : RuleTable T A) (one : clients_of table ≡ 1) w
       let free = (h.0 refl).won in freed_shows slot charge name a free.0 b free.1 free.2
 
   -- A release.
-  pub releases_show : (slot name : ℕ) (used erase : Bool) (freed : Option ℕ) (a b : SeatOf T)
-      → ReleasesBy table slot name used erase freed a b
+  pub releases_show : (slot name : ℕ) (room used erase : Bool) (freed : Option ℕ)
+      (a b : SeatOf T) → ReleasesBy table slot name room used erase freed a b
       → ShowsBut slot freed (world_at table a) (world_at table b)
-  releases_show slot name used erase freed a b h = record {
+  releases_show slot name room used erase freed a b h = record {
     others = λ s other. then.others s other ∙ same s;
     kept = by freed then.kept;
     gone = then.gone;

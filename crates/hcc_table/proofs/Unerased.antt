@@ -2,7 +2,7 @@
 use Rattle.std.proofs.Common.{◌≡◌, ◌⊎◌, inl, inr, ℕ, ◌+◌, ◌*◌, ◌-◌, ◌/◌, ◌%◌, ◌^◌, ◌≤◌, ◌==◌, ◌&&◌, Bool, true, false, Option, Some, None, Ok, sym, refl, ap, ◌∙◌, arith, subst}
 use Rattle.std.specs.Prelude.{IsSomeAnd, option_and_then, if◌then◌else◌}
 use Rattle.std.specs.Option.{ok_or}
-use Rattle.std.proofs.lemmas.Bool.{cases_eq, eqb-true}
+use Rattle.std.proofs.lemmas.Bool.{and_parts, cases_eq, eqb-true}
 use Rattle.hcc_word.specs.declared.layout.TheConstants.{VISIBLE}
 use Rattle.hcc_word.specs.Word.{acquires_of, is_empty, is_shareable, is_visible, refs_of, releases_of, state_of}
 use Rattle.hcc_core.specs.declared.client.Client.{Client}
@@ -189,14 +189,14 @@ module _ {T A : Type 0} (table : RuleTable T A) (one : clients_of table ≡ 1) w
           (event_alone table one (give_done 1 name h.0 (view a)) a b event)
 
   -- A release that doesn't ask to erase, and that freed an entry: its slot showed nothing.
-  pub unerased_hidden : (slot name charge : ℕ) (used : Bool) (a b : SeatOf T)
-      → ReleasesBy table slot name used false (Some charge) a b
+  pub unerased_hidden : (slot name charge : ℕ) (room used : Bool) (a b : SeatOf T)
+      → ReleasesBy table slot name room used false (Some charge) a b
       → shown_at (world_at table a) slot ≡ None
-  unerased_hidden slot name charge used a b h = by (shown_at (world_at table a) slot) refl
+  unerased_hidden slot name charge room used a b h = by (shown_at (world_at table a) slot) refl
     where
       by : (o : Option Entry) → shown_at (world_at table a) slot ≡ o → o ≡ None
       by None is = refl
       by (Some entry) is =
           let kept = left_shown slot name h.left used entry a h.between h.gives is in
-          let due = h.due in
+          let due = (and_parts room _ h.due).1 in
           absurd (cc)

@@ -1,5 +1,5 @@
 -- What a client has once it freed an entry.
-use Rattle.std.specs.Prelude.{◌≡◌, ℕ, ◌+◌, ◌-◌, ◌*◌, ◌%◌, ◌^◌, ◌≤◌, ◌==◌, ◌&&◌, ◌||◌, not, Bool, true, false, List, [], ◌∷◌, ◌++◌, Option, IfSome, IfNone, length, slice_index, if◌then◌else◌}
+use Rattle.std.specs.Prelude.{◌≡◌, ℕ, ◌+◌, ◌-◌, ◌*◌, ◌%◌, ◌^◌, ◌<◌, ◌≤◌, ◌==◌, ◌&&◌, ◌||◌, not, Bool, true, false, List, [], ◌∷◌, ◌++◌, Option, IfSome, IfNone, length, slice_index, if◌then◌else◌}
 use Rattle.hcc_word.specs.declared.layout.TheConstants.{ONE_RELEASE}
 use Rattle.hcc_word.specs.Word.{is_shareable, is_visible, refs_of}
 use Rattle.hcc_core.specs.declared.client.Owned.TheVariants as owned
@@ -22,6 +22,7 @@ use Rattle.hcc_rule.specs.Seats.{SeatOf, Makes, view}
 use Rattle.hcc_rule.specs.ToldOwners.{IsTaken, after_free, is_warm}
 use Rattle.hcc_rule.specs.ToldReferences.{after_give}
 use Rattle.hcc_table.specs.declared.efforts.Effort.{Effort}
+use Rattle.hcc_table.specs.declared.lists.Freed.{Freed}
 use Rattle.hcc_table.specs.declared.pins.Pin.{Pin}
 use Rattle.hcc_table.specs.Efforts.{Lost}
 use Rattle.hcc_table.specs.Searched.{Grows}
@@ -41,6 +42,14 @@ module _ {T : Type 0} where
   -- the key of the entry whose words stand in the slot that the client owns
   abbrev pub owned_key : View T → Key
   owned_key v = record { w0 = slice_index v.written KEY0; w1 = slice_index v.written KEY1 }
+
+  -- the entry there, as a list has it
+  abbrev pub owned_freed : View T → Freed
+  owned_freed v = record { key = owned_key v; word = slice_index v.written PAYLOAD }
+
+  -- its value has a word
+  abbrev pub HasWord : (room : ℕ) → View T → Type 0
+  HasWord room v = (PAYLOAD < length v.written) × (0 < room)
 
   -- The client took the slot's entry: its words are known, and its trail is the client's.
   pub record HasTaken (slots slot : ℕ) (v : View T) : Type 0 where

@@ -29,9 +29,11 @@ is_alone left = is_shareable left && not (is_visible left) && (refs_of left == 1
 abbrev pub nothing_erased : Erased
 nothing_erased = record { hidden = 0; slots = 0; charge = 0 }
 
--- What was found at one probe of a key, and what was done there: which entry was hidden, if any.
+-- What was found at one probe of a key, and what was done there: which entry was hidden, if any,
+-- and whether the list of what is freed had room then.
 pub record HideProbe : Type 0 where
   pub found : Probe
+  pub room : Bool
   pub caught : Option Stamp
   pub done : Erased
 
@@ -45,9 +47,10 @@ HidingGoesOn = Each (λ (p : HideProbe). ¬ (p.found.displacement ≡ 0))
 
 module _ {T A : Type 0} (table : RuleTable T A) where
   -- The entry of the reference of a name was hidden by one step, and counts as hidden where that
-  -- found it visible. To take the entry was tried where the reference was left alone there: it was
-  -- freed, or one exchange more lost. Where it wasn't freed the reference was given back.
-  pub record HidesHeld (slot name : ℕ) (done : Erased) (before after : Effort)
+  -- found it visible. To take the entry was tried where the reference was left alone there and the
+  -- list had room: it was freed, or one exchange more lost. Where it wasn't freed the reference was
+  -- given back.
+  pub record HidesHeld (slot name : ℕ) (room : Bool) (done : Erased) (before after : Effort)
       (old new : SeatOf T) : Type 0 where
     pub found : ℕ
     pub hid : SeatOf T
@@ -58,9 +61,9 @@ module _ {T A : Type 0} (table : RuleTable T A) where
     pub freed : Option ℕ
     pub tried : SeatOf T
     pub tries : TriedWhereDue (address_of_meta table slot) (bit_and found HIDING_MASK)
-        (is_alone (bit_and found HIDING_MASK)) freed before after hid tried
+        (room && is_alone (bit_and found HIDING_MASK)) freed before after hid tried
     pub takes : TakesByWhereDue table slot (bit_and found HIDING_MASK) (Some name)
-        (is_alone (bit_and found HIDING_MASK)) freed hid tried
+        (room && is_alone (bit_and found HIDING_MASK)) freed hid tried
     pub won : IfSome freed (λ charge.
         (new ≡ tried) × (done.slots ≡ 1) × (done.charge ≡ charge))
     pub given : IfNone freed ((left : ℕ)
@@ -71,8 +74,8 @@ module _ {T A : Type 0} (table : RuleTable T A) where
 module _ {T A : Type 0} (fits : T → Key → List ℕ → Type 0) (table : RuleTable T A) (key : Key)
     (name : ℕ) where
   -- The slot was found visible with an entry of the key, and that was hidden: the caught one.
-  pub record Hides (slot word : ℕ) (caught : Option Stamp) (done : Erased) (before after : Effort)
-      (old new : SeatOf T) : Type 0 where
+  pub record Hides (room : Bool) (slot word : ℕ) (caught : Option Stamp) (done : Erased)
+      (before after : Effort) (old new : SeatOf T) : Type 0 where
     pub between : Effort
     pub held : SeatOf T
     pub catches : Catches fits table key name (Looks table slot) slot 1 word before between old held
@@ -80,15 +83,15 @@ module _ {T A : Type 0} (fits : T → Key → List ℕ → Type 0) (table : Rule
         (λ r. (r.slot ≡ slot) × (key_of r.entry ≡ key))
     pub entry : IsSomeAnd (record_in name (view held).records)
         (λ r. caught ≡ Some r.entry.stamp)
-    pub hides : HidesHeld table slot name done between after held new
+    pub hides : HidesHeld table slot name room done between after held new
 
   -- it was passed, and nothing was done, or its entry was hidden
-  abbrev pub PassesOrHides : (slot word : ℕ) → (caught : Option Stamp) → (done : Erased)
-      → (before after : Effort) → (old new : SeatOf T) → Type 0
-  PassesOrHides slot word caught done before after old new =
+  abbrev pub PassesOrHides : (room : Bool) → (slot word : ℕ) → (caught : Option Stamp)
+      → (done : Erased) → (before after : Effort) → (old new : SeatOf T) → Type 0
+  PassesOrHides room slot word caught done before after old new =
       (Passes fits table key name (Looks table slot) slot 1 word before after old new
       × (done ≡ nothing_erased) × (caught ≡ None))
-      ⊎ Hides slot word caught done before after old new
+      ⊎ Hides room slot word caught done before after old new
 
   -- one slot of the key's probes, which was counted first
   pub record HidAt (slot : ℕ) (p : HideProbe) (before after : Effort) (old new : SeatOf T)
@@ -96,7 +99,7 @@ module _ {T A : Type 0} (fits : T → Key → List ℕ → Type 0) (table : Rule
     pub between : Effort
     pub visited : VisitedSlots 1 before between
     pub mid : SeatOf T
-    pub does : PassesOrHides slot p.found.word p.caught p.done between after old mid
+    pub does : PassesOrHides p.room slot p.found.word p.caught p.done between after old mid
     pub counts : Makes (address_of_displacement table slot) 0 0 p.found.displacement mid new
     pub event : IsEvent table (count_done slot p.found.displacement (view mid)) mid new
     pub kept : view new ≡ view mid
@@ -104,8 +107,9 @@ module _ {T A : Type 0} (fits : T → Key → List ℕ → Type 0) (table : Rule
   -- Each slot that was visited and found visible with the key was hidden, and each other one was
   -- passed. There was at least one; at the last no trail went on, or it was that of the last probe.
   -- All that was done is the sum of what was done at each. Each entry that was hidden is dead to
-  -- the client, held before or not.
-  pub record HidesAll (all : Erased) (before after : Effort) (old new : SeatOf T) : Type 0 where
+  -- the client, held before or not. The list had room at each, where it has room in the end.
+  pub record HidesAll (room : Bool) (all : Erased) (before after : Effort) (old new : SeatOf T) :
+      Type 0 where
     pub earlier : List HideProbe
     pub last : HideProbe
     pub probes : AtProbes (slots_of table) key HidAt 0 (earlier ++ last ∷ []) before after old new
@@ -115,3 +119,4 @@ module _ {T A : Type 0} (fits : T → Key → List ℕ → Type 0) (table : Rule
     pub slots : all.slots ≡ total (λ (p : HideProbe). p.done.slots) (earlier ++ last ∷ [])
     pub charge : all.charge ≡ total (λ (p : HideProbe). p.done.charge) (earlier ++ last ∷ [])
     pub dead : Each (IsDeadIn (view new).work.dead) (earlier ++ last ∷ [])
+    pub roomy : Each (λ (p : HideProbe). room ≡ true → p.room ≡ true) (earlier ++ last ∷ [])

@@ -1,4 +1,5 @@
 pub mod Efforts
+pub mod Lists
 pub mod Rises
 pub mod Pins
 pub mod Searched

@@ -1,5 +1,5 @@
 -- What leaves what a shard shows as it is, and what a release leaves of it.
-use Rattle.std.specs.Prelude.{◌≡◌, ℕ, Bool, true, false, List, Option, None, IfNone, IfSome}
+use Rattle.std.specs.Prelude.{◌≡◌, ◌&&◌, ℕ, Bool, true, false, List, Option, None, IfNone, IfSome}
 use Rattle.hcc_core.specs.declared.event.Event.{Event}
 use Rattle.hcc_core.specs.declared.event.Event.TheVariants as events
 use Rattle.hcc_core.specs.World.{State}
@@ -36,14 +36,15 @@ module _ {T A : Type 0} (table : RuleTable T A) where
   GoesOnStill old new = GoesOnBy table is_still old new
 
   -- A reference of this name was given back, as a use or not. Where that left the entry of its slot
-  -- due, to take it was tried, and it was freed or not: by the events of both.
-  pub record ReleasesBy (slot name : ℕ) (used erase : Bool) (freed : Option ℕ)
+  -- due, and the list of what is freed had room, to take it was tried, and it was freed or not: by
+  -- the events of both.
+  pub record ReleasesBy (slot name : ℕ) (room used erase : Bool) (freed : Option ℕ)
       (old new : SeatOf T) : Type 0 where
     pub left : ℕ
     pub between : SeatOf T
     pub gives : IsLeftBy table slot 1 name used left old between
-    pub takes : TakesByWhereDue table slot left None (is_due erase left) freed between new
-    pub due : IfSome freed (λ charge. is_due erase left ≡ true)
+    pub takes : TakesByWhereDue table slot left None (room && is_due erase left) freed between new
+    pub due : IfSome freed (λ charge. (room && is_due erase left) ≡ true)
 
   -- The entries with which the table's shard began keep their limits: where it was new it had none.
   abbrev pub BeganWithin : (fits : T → Key → List ℕ → Type 0) → Type 0

@@ -1,22 +1,25 @@
 //! Taking an entry to free it.
-ghost use Rattle.std.specs.Prelude.{◌≡◌, ◌+◌, ◌^◌, ◌≤◌, [], true, IfSome, IfNone, length, slice_index};
+ghost use Rattle.std.specs.Prelude.{◌≡◌, ◌∷◌, ◌+◌, ◌^◌, ◌<◌, ◌≤◌, [], true, Some, IfSome, IfNone, is_some, length, slice_index};
 ghost use Rattle.hcc_word.specs.Word.{is_shareable};
-ghost use Rattle.hcc_rule.specs.declared.layout.TheConstants.{CHARGE};
-ghost use Rattle.hcc_rule.specs.Callers.{slots_of, room_of, IsSeatAt, IsSlotOf, IsSlotAt};
+ghost use Rattle.hcc_rule.specs.declared.layout.TheConstants.{CHARGE, PAYLOAD};
+ghost use Rattle.hcc_core.specs.Lawful.{owned_slot};
+ghost use Rattle.hcc_rule.specs.Callers.{slots_of, room_of, IsNoEvent, IsSeatAt, IsSlotOf, IsSlotAt};
 ghost use Rattle.hcc_rule.specs.Addresses.{address_of_meta};
 ghost use Rattle.hcc_rule.specs.Between.{MayFree};
 ghost use Rattle.hcc_rule.specs.Probes.{trail_to};
 ghost use Rattle.hcc_rule.specs.Seats.{IsSameSeat, view};
 ghost use Rattle.hcc_rule.specs.ToldOwners.{IsLast, records_left};
 ghost use Rattle.hcc_table.specs.Efforts.{Lost};
-ghost use Rattle.hcc_table.specs.Freed.{HasTaken, IsFreed, TakenAt, TakesBy, emptied};
+ghost use Rattle.hcc_table.specs.Freed.{HasTaken, HasWord, IsFreed, TakenAt, TakesBy, emptied, owned_freed, owned_key};
+ghost use Rattle.hcc_table.specs.Lists.{Hands, Puts, has_room};
 ghost use Rattle.hcc_table.specs.Searched.{Sought};
 ghost use Rattle.hcc_table.specs.Seeking.{is_unpass, Empties, GoesOnBy};
 ghost use Rattle.hcc_table.specs.Steps.{Adds, MakesAtMost, TriesToTake, freeing};
 
 use crate::efforts::Effort;
+use crate::lists::{Freed, FreedList, NoList};
 use crate::walk::Walk;
-use hcc_rule::layout::{CHARGE, KEY0, KEY1};
+use hcc_rule::layout::{CHARGE, KEY0, KEY1, PAYLOAD};
 use hcc_rule::{Key, RuleSeat, RuleTable, SlotAt, Tag};
 use std::alloc::Allocator;
 
@@ -41,33 +44,67 @@ pub fn free_taken<T: Tag, A: Allocator>(
     ensures steps { MakesAtMost (length (view seat.old).work.trail + 4) seat.old seat.new }
 {
     let data = table.data_of(slot);
-    free_taken_at(table, seat, SlotAt { slot, data })
+    free_taken_at(table, seat, SlotAt { slot, data }, &mut NoList)
 }
 
-/// The same as `free_taken`, for a caller that has the slot with its address.
-fn free_taken_at<T: Tag, A: Allocator>(
+/// The same, with the slot's address, and puts the entry on a list before the slot is emptied.
+fn free_taken_at<T: Tag, A: Allocator, L: FreedList<T>>(
     table: &RuleTable<T, A>,
     seat: &mut RuleSeat<T>,
     at: SlotAt,
+    list: &mut L,
 ) -> u64
     requires seat { IsSeatAt table.now seat.old }
     requires at { IsSlotAt table.now at }
     requires taken { HasTaken (slots_of table.now) at.slot (view seat.old) }
+    requires room { has_room 1 (L.shelf list.old) ≡ true }
+    requires has { is_some (L.shelf list.old) ≡ true → HasWord (room_of table.now) (view seat.old) }
     ensures seat { IsSameSeat seat.old seat.new }
     ensures charge { result ≡ slice_index (view seat.old).written CHARGE }
+    ensures list { Puts (owned_freed (view seat.old) ∷ []) (L.shelf list.old) (L.shelf list.new) }
     ensures view { view seat.new ≡ emptied (view seat.old) }
     ensures past { Empties table.now (view seat.old).client seat.old seat.new }
     ensures adds { Adds seat.old seat.new }
-    ensures steps { MakesAtMost (length (view seat.old).work.trail + 4) seat.old seat.new }
+    ensures steps { MakesAtMost (length (view seat.old).work.trail + 4 + L.loads)
+        seat.old seat.new }
 {
     let key = Key {
         w0: table.read_own_at(seat, at, KEY0),
         w1: table.read_own_at(seat, at, KEY1),
     };
     let charge = table.read_own_at(seat, at, CHARGE);
+    put_own(table, seat, at, key, list);
     take_back(table, seat, at.slot, key);
     table.empty_at(seat, at);
     charge
+}
+
+/// Puts the entry whose slot the client owns on the list, if there is one.
+#[inline(always)]
+fn put_own<T: Tag, A: Allocator, L: FreedList<T>>(
+    table: &RuleTable<T, A>,
+    seat: &mut RuleSeat<T>,
+    at: SlotAt,
+    key: Key,
+    list: &mut L,
+)
+    requires seat { IsSeatAt table.now seat.old }
+    requires at { IsSlotAt table.now at }
+    requires key { key ≡ owned_key (view seat.old) }
+    requires room { has_room 1 (L.shelf list.old) ≡ true }
+    requires owned { owned_slot (view seat.old).work.owned ≡ Some at.slot }
+    requires has { is_some (L.shelf list.old) ≡ true → HasWord (room_of table.now) (view seat.old) }
+    ensures seat { IsSameSeat seat.old seat.new }
+    ensures list { Puts (owned_freed (view seat.old) ∷ []) (L.shelf list.old) (L.shelf list.new) }
+    ensures view { view seat.new ≡ view seat.old }
+    ensures past { IsNoEvent seat.old seat.new }
+    ensures adds { Adds seat.old seat.new }
+    ensures steps { MakesAtMost L.loads seat.old seat.new }
+{
+    if list.is_kept() {
+        let word = table.read_own_at(seat, at, PAYLOAD);
+        list.put(Freed { key, word });
+    }
 }
 
 /// Takes back the displacements of a key's probes before the slot.
@@ -99,13 +136,15 @@ pub(crate) fn take_back<T: Tag, A: Allocator>(
 }
 
 /// Tries once to take the entry of a slot whose word was `word`, with no reference or with the
-/// client's last one, and frees it. It returns its charge; none where the compare-exchange lost.
-pub(crate) fn try_free<T: Tag, A: Allocator>(
+/// client's last one, frees it, and puts it on the list. It returns its charge; none where the
+/// compare-exchange lost.
+pub(crate) fn try_free<T: Tag, A: Allocator, L: FreedList<T>>(
     table: &RuleTable<T, A>,
     seat: &mut RuleSeat<T>,
     at: SlotAt,
     word: u64,
     name: Option<u64>,
+    list: &mut L,
     effort: &mut Effort,
 ) -> Option<u64>
     requires seat { IsSeatAt table.now seat.old }
@@ -113,7 +152,9 @@ pub(crate) fn try_free<T: Tag, A: Allocator>(
     requires entry { is_shareable word ≡ true }
     requires last { IsLast at.slot word name (view seat.old) }
     requires may { MayFree (view seat.old) }
+    requires room { has_room 1 (L.shelf list.old) ≡ true }
     ensures seat { IsSameSeat seat.old seat.new }
+    ensures list { Hands (L.shelf list.old) (L.shelf list.new) (view seat.old) (view seat.new) }
     ensures lost { IfNone result (Sought (view seat.old) (view seat.new)
         × ((view seat.new).met ≡ (view seat.old).met) × Lost 1 1 effort.old effort.new) }
     ensures still { IfNone result ((view seat.new).glimpse ≡ (view seat.old).glimpse) }
@@ -126,11 +167,11 @@ pub(crate) fn try_free<T: Tag, A: Allocator>(
         × ((view seat.new).work.looked ≡ (view seat.old).work.looked)) }
     ensures tried { TriesToTake (address_of_meta table.now at.slot) word result seat.old seat.new }
     ensures by { TakesBy table.now at.slot word name result seat.old seat.new }
-    ensures steps { MakesAtMost (freeing (slots_of table.now)) seat.old seat.new }
+    ensures steps { MakesAtMost (freeing (slots_of table.now) + L.loads) seat.old seat.new }
 {
     if table.free_at(seat, at, word, name) != word {
         effort.lose();
         return None;
     }
-    Some(free_taken_at(table, seat, at))
+    Some(free_taken_at(table, seat, at, list))
 }

@@ -57,9 +57,9 @@ pub fn law_hidden_alone<T: Tag, A: Allocator>()
     // As many slots are hidden as show the key in the world that the seat knows when the call
     // begins. In the one that it knows at the end none does: those show nothing, and each other
     // slot shows what it showed.
-    ensures hides { (table : RuleTable T A) (key : Key) (name : ℕ) (all : Erased)
+    ensures hides { (table : RuleTable T A) (key : Key) (name : ℕ) (room : Bool) (all : Erased)
         (before after : Effort) (old new : SeatOf T) → clients_of table ≡ 1
-        → HidesAll T.fits table key name all before after old new
+        → HidesAll T.fits table key name room all before after old new
         → HidesShown (slots_of table) key all.hidden (world_at table old) (world_at table new) }
 
     // To settle what was freed changes nothing of what is shown.
@@ -108,16 +108,16 @@ pub fn law_still_alone<T: Tag, A: Allocator>()
 
     // A release: each slot but that of its reference shows what it showed. That one does so too
     // where nothing was freed, else it shows nothing.
-    ensures releases { (table : RuleTable T A) (slot name : ℕ) (used erase : Bool)
+    ensures releases { (table : RuleTable T A) (slot name : ℕ) (room used erase : Bool)
         (freed : Option ℕ) (old new : SeatOf T) → clients_of table ≡ 1
-        → ReleasesBy table slot name used erase freed old new
+        → ReleasesBy table slot name room used erase freed old new
         → ShowsBut slot freed (world_at table old) (world_at table new) }
 
     // One that doesn't ask to erase, and that freed an entry all the same: its slot showed nothing.
     // So none takes away what is shown.
-    ensures unerased { (table : RuleTable T A) (slot name charge : ℕ) (used : Bool)
+    ensures unerased { (table : RuleTable T A) (slot name charge : ℕ) (room used : Bool)
         (old new : SeatOf T) → clients_of table ≡ 1
-        → ReleasesBy table slot name used false (Some charge) old new
+        → ReleasesBy table slot name room used false (Some charge) old new
         → shown_at (world_at table old) slot ≡ None }
 {}
 

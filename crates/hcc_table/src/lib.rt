@@ -48,6 +48,8 @@
 //!   is one compare-exchange: if it loses, nothing is changed.
 //! - Freeing: load key and charge, subtract 1 from the displacements of the trail, store 0. Until
 //!   then others change nothing of the slot, except its displacement and, by strays, its meta word.
+//!   Where a call is lent a list ([`FreedList`]), whoever frees an entry puts its key and the first
+//!   word of its value there, for one load more; where that is full, no exchange is tried.
 //!
 //! Overflow. An acquire can't be refused, so a bound keeps the counters in their 30 bits. From
 //! 2^29 + 4 releases on, a new reference doesn't count: its release subtracts. With that, uses and
@@ -66,6 +68,7 @@ mod freeing;
 mod hiding;
 mod inserting;
 pub mod laws;
+mod lists;
 mod optimistic;
 mod pinning;
 mod pins;
@@ -82,6 +85,7 @@ pub use efforts::Effort;
 pub use freeing::free_taken;
 pub use hiding::{Erased, hide};
 pub use inserting::{Insertion, insert};
+pub use lists::{Freed, FreedList, NoList};
 pub use optimistic::{Got, read_optimistic};
 pub use pinning::pinned_charge;
 pub use pins::{IfLast, Pin, PinAt, Use};

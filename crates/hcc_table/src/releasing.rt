@@ -11,12 +11,14 @@ ghost use Rattle.hcc_rule.specs.Views.{is_called};
 ghost use Rattle.hcc_rule.specs.Records.{record_in};
 ghost use Rattle.hcc_table.specs.Efforts.{Lost};
 ghost use Rattle.hcc_table.specs.Freed.{GivesOnce, IsFreed, IsLeft, IsLeftBy, TakesByWhereDue, TriedWhereDue, is_due};
+ghost use Rattle.hcc_table.specs.Lists.{Hands, has_room};
 ghost use Rattle.hcc_table.specs.Pins.{IsPinned, erases, is_useful, IsPinAt};
 ghost use Rattle.hcc_table.specs.Searched.{Searched};
 ghost use Rattle.hcc_table.specs.Steps.{Among, MakesAtMost, freeing};
 
 use crate::efforts::Effort;
 use crate::freeing::try_free;
+use crate::lists::FreedList;
 use crate::pins::{IfLast, Pin, PinAt, Use};
 use crate::words::{has_entry, is_shown};
 use hcc_rule::{RuleSeat, RuleTable, SlotAt, Tag};
@@ -25,8 +27,9 @@ use std::alloc::Allocator;
 
 /// Gives the reference of a pin back: as a use, where it is useful and counts, else by taking it
 /// from the acquires. Where no reference is left then, and the entry is hidden or `last` asks for
-/// it, taking the entry is tried once, and its slot is freed. It returns the charge of the entry
-/// that was freed; it and a place are the client's to settle. Another entry that came into the slot
+/// it, taking the entry is tried once, and its slot is freed; but where the list has no room, that
+/// is left to the clock. It returns the charge of the entry that was freed, and puts that on the
+/// list; the charge and a place are the client's to settle. Another entry that came into the slot
 /// meanwhile may be the one that goes.
 ///
 /// The client holds the pin's reference, and may free an entry. Its record is gone afterwards, and
@@ -34,12 +37,13 @@ use std::alloc::Allocator;
 /// one atomic add or subtraction; where nobody holds the entry and it may go a compare-exchange,
 /// and where that wins what `free_taken` costs.
 #[inline(always)]
-pub fn release<T: Tag, A: Allocator>(
+pub fn release<T: Tag, A: Allocator, L: FreedList<T>>(
     table: &RuleTable<T, A>,
     seat: &mut RuleSeat<T>,
     pin: Pin,
     as_use: Use,
     last: IfLast,
+    list: &mut L,
     effort: &mut Effort,
 ) -> Option<u64>
     requires seat { IsSeatAt table.now seat.old }
@@ -47,6 +51,7 @@ pub fn release<T: Tag, A: Allocator>(
     requires holds { IsPinned pin (view seat.old) }
     requires may { MayFree (view seat.old) }
     ensures seat { IsSameSeat seat.old seat.new }
+    ensures list { Hands (L.shelf list.old) (L.shelf list.new) (view seat.old) (view seat.new) }
     ensures effort { Lost 0 1 effort.old effort.new }
     ensures records { (view seat.new).records
         ≡ dropped (is_called pin.name) (view seat.old).records }
@@ -61,20 +66,21 @@ pub fn release<T: Tag, A: Allocator>(
     ensures tried { (left : ℕ) × (between : SeatOf T)
         × IsLeft (address_of_meta table.now pin.slot) pin.slot 1 pin.name
         (is_useful as_use && pin.counting) left seat.old between
-        × TriedWhereDue (address_of_meta table.now pin.slot) left (is_due (erases last) left) result
+        × TriedWhereDue (address_of_meta table.now pin.slot) left
+        (has_room 1 (L.shelf list.old) && is_due (erases last) left) result
         effort.old effort.new between seat.new
         × IsLeftBy table.now pin.slot 1 pin.name (is_useful as_use && pin.counting) left
         seat.old between
-        × TakesByWhereDue table.now pin.slot left None (is_due (erases last) left) result
-        between seat.new }
-    ensures steps { MakesAtMost (freeing (slots_of table.now) + 1) seat.old seat.new }
+        × TakesByWhereDue table.now pin.slot left None
+        (has_room 1 (L.shelf list.old) && is_due (erases last) left) result between seat.new }
+    ensures steps { MakesAtMost (freeing (slots_of table.now) + L.loads + 1) seat.old seat.new }
 {
     let used = as_use.is_use(pin.counting);
     let (slot, data) = (pin.slot, table.data_of(pin.slot));
     let at = SlotAt { slot, data };
     let left = let_go(table, seat, at, 1, pin.name, used);
-    if is_free_to_go(left, last.erases()) {
-        try_free(table, seat, at, left, None, effort)
+    if is_free_to_go(left, last.erases(), list.has_room(1)) {
+        try_free(table, seat, at, left, None, list, effort)
     } else {
         None
     }
@@ -131,9 +137,10 @@ pub(crate) fn let_go<T: Tag, A: Allocator>(
     }
 }
 
-/// Whether it is the word of an entry that nobody holds, and that is hidden or is to be erased.
-fn is_free_to_go(word: u64, erase: bool) -> bool
-    ensures { result ≡ is_due erase word }
+/// Whether it is the word of an entry that nobody holds, and that is hidden or is to be erased,
+/// where there is room for it.
+fn is_free_to_go(word: u64, erase: bool, room: bool) -> bool
+    ensures { result ≡ (room && is_due erase word) }
 {
-    has_entry(word) && refs(word) == 0 && (erase || !is_shown(word))
+    room && has_entry(word) && refs(word) == 0 && (erase || !is_shown(word))
 }

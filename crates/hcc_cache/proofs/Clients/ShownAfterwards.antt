@@ -1,5 +1,5 @@
 -- What a client knows the shards of a cache to show, once a call was made.
-use Rattle.std.proofs.Common.{◌≡◌, ◌<◌, inl, inr, ℕ, Bool, false, zero, suc, List, [], ◌∷◌, Some, Result, Ok, Err, length, slice_get, sym, refl, ap, ◌∙◌, subst, arith}
+use Rattle.std.proofs.Common.{◌≡◌, ◌<◌, inl, inr, ℕ, Bool, false, zero, suc, List, [], ◌∷◌, Some, Result, Ok, Err, length, slice_get, sym, refl, ap, ◌∙◌, subst, arith, true}
 use Rattle.std.specs.Prelude.{IsSomeAnd}
 use Rattle.std.proofs.lemmas.Bool.{cases_eq}
 use Rattle.std.proofs.lemmas.Option.{same_Some}
@@ -179,7 +179,7 @@ module _ {T : Type 0} (cache : Cache T) where
 
     -- A release takes away what the slot of its reference showed, where it freed an entry.
     pub knows_released : clients_of k.shard.table ≡ 1 → (hold : Hold) (slot : ℕ)
-        (used erase freed : Bool) → ReleasesPin cache hold slot used erase freed old new
+        (used erase freed : Bool) → ReleasesPin cache hold slot true used erase freed old new
         → (shard_in cache key ≡ hold.shard → k.slot ≡ slot → freed ≡ false)
         → KnowsShown cache key new
     knows_released one hold slot used erase freed h kept =
@@ -205,5 +205,6 @@ module _ {T : Type 0} (cache : Cache T) where
             (subst (λ (q : ShardSeat (Seeded T)).
             shown_at (world_at h.0.shard.table h.0.is.seat) k.slot
             ≡ shown_at (world_at h.0.shard.table q.seat) k.slot) seat
-            (release_shows h.0.shard slot hold.serial used erase freed h.0.was h.0.is h.0.did single
+            (release_shows h.0.shard slot hold.serial true used erase freed h.0.was h.0.is h.0.did
+            single
             k.slot (kept here))))

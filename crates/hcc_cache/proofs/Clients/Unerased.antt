@@ -1,5 +1,5 @@
 -- A release that doesn't ask to erase takes nothing away that a cache of one client shows.
-use Rattle.std.proofs.Common.{◌≡◌, ℕ, ◌&&◌, Bool, false, Option, Some, None, is_some, slice_get, sym, refl, ap, ◌∙◌, subst}
+use Rattle.std.proofs.Common.{◌≡◌, ℕ, ◌&&◌, Bool, false, Option, Some, None, is_some, slice_get, sym, refl, ap, ◌∙◌, subst, true}
 use Rattle.std.specs.Prelude.{IsSome, IsSomeAnd}
 use Rattle.std.specs.declared.alloc.Global.{Global}
 use Rattle.std.proofs.lemmas.Option.{same_Some}
@@ -30,21 +30,22 @@ use Rattle.hcc_cache.proofs.Clients.ShownAfterwards.{knows_released, knows_still
 module _ {T A : Type 0} (shard : Shard T A) (one : clients_of shard.table ≡ 1) where
   -- So one whose slot shows an entry frees nothing.
   shown_unfreed : (slot name : ℕ) (used freed : Bool) (old new : ShardSeat T) (entry : Entry)
-      → ReleasesAt shard slot name used false freed old new
+      → ReleasesAt shard slot name true used false freed old new
       → shown_at (world_at shard.table old.seat) slot ≡ Some entry → freed ≡ false
   shown_unfreed slot name used freed old new entry h shown = h.freed_is ∙ by h.charge h.releases
     where
-      by : (o : Option ℕ) → ReleasesBy shard.table slot name used false o old.seat h.mid
+      by : (o : Option ℕ) → ReleasesBy shard.table slot name true used false o old.seat h.mid
           → is_some o ≡ false
       by None r = refl
       by (Some charge) r =
-          let none = unerased_hidden shard.table one slot name charge used old.seat h.mid r in cc
+          let none = unerased_hidden shard.table one slot name charge true used old.seat h.mid r in
+          cc
 
 module _ {T : Type 0} (cache : Cache T) (key : Key) (old new : Client T)
     (k : KnowsShown cache key old) (one : clients_of k.shard.table ≡ 1) where
   -- A release of a pin that doesn't ask to erase takes nothing away.
   pub knows_unerased : (hold : Hold) (slot : ℕ) (used freed : Bool)
-      → ReleasesPin cache hold slot used false freed old new → KnowsShown cache key new
+      → ReleasesPin cache hold slot true used false freed old new → KnowsShown cache key new
   knows_unerased hold slot used freed h =
       knows_released cache key old new k one hold slot used false freed h unfreed
     where

@@ -7,6 +7,7 @@ use Rattle.hcc_core.specs.Ledgers.{is_standing}
 use Rattle.hcc_rule.specs.declared.view.Record.{Record}
 use Rattle.hcc_rule.specs.Records.{record_in}
 use Rattle.hcc_shard.specs.declared.seat.ShardSeat.{ShardSeat}
+use Rattle.hcc_cache.specs.Alones.{bytes_of}
 use Rattle.hcc_cache.specs.declared.cache.Cache.{Cache}
 use Rattle.hcc_cache.specs.declared.client.Client.{Client}
 use Rattle.hcc_cache.specs.declared.handle.Handle.{Handle}
@@ -111,7 +112,7 @@ module _ {V : Type 0} (old new : Slab V) (index : ℕ) where
 pub record IsSameAlone (a b : Alone) : Type 0 where
   pub name : b.name ≡ a.name
   pub charge : b.charge ≡ a.charge
-  pub value : b.value.items ≡ a.value.items
+  pub value : bytes_of b.value ≡ bytes_of a.value
 
 pub same_alone : (a : Alone) → IsSameAlone a a
 same_alone a = record { name = refl; charge = refl; value = refl }

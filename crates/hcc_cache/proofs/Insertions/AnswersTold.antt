@@ -12,7 +12,7 @@ use Rattle.hcc_cache.specs.declared.cache.Cache.{Cache}
 use Rattle.hcc_cache.specs.declared.client.Client.{Client}
 use Rattle.hcc_cache.specs.declared.errors.InsertError.TheVariants as answers
 use Rattle.hcc_cache.specs.declared.priority.Priority.{Priority}
-use Rattle.hcc_cache.specs.Inserts.{Fails, Inserts, InsertsAt, PinsAt, RefusesPinnedAt, RefusesWith, Stores, StoresAt, answer_of, error_of}
+use Rattle.hcc_cache.specs.Inserts.{Fails, InsertsAtListed, InsertsListed, PinsAtListed, RefusesPinnedAtListed, RefusesWithListed, StoresAtListed, StoresListed, answer_of, error_of}
 
 -- A refusal by a shard isn't that all serials are used,
 pub not_spent : (why : Refused) → error_of why ≡ answers.Spent → ⊥
@@ -37,63 +37,65 @@ not_full OccupancyFull same = cc
 
 module _ {T : Type 0} where
   -- nor that the charge is too large, where it is not.
-  pub not_large : (slots capacity : ℕ) (strict : Bool) (draft : Draft) (v w : View T)
-      (why : Refused) → RefusedBy slots capacity strict draft why v w
+  pub not_large : (had has : Bool) (slots capacity : ℕ) (strict : Bool) (draft : Draft) (v w : View
+      T)
+      (why : Refused) → RefusedBy had has slots capacity strict draft why v w
       → (strict ≡ true → draft.charge ≤ capacity) → error_of why ≡ answers.TooLarge → ⊥
-  not_large slots capacity strict draft v w TooLarge told small same =
+  not_large had has slots capacity strict draft v w TooLarge told small same =
       let above = told.1 in
       let below = small told.0 in
       omega arith
-  not_large slots capacity strict draft v w CapacityFull told small same = cc
-  not_large slots capacity strict draft v w OccupancyFull told small same = cc
+  not_large had has slots capacity strict draft v w CapacityFull told small same = cc
+  not_large had has slots capacity strict draft v w OccupancyFull told small same = cc
 
   -- So it is with answers without a handle.
-  pub answers_small : (slots capacity : ℕ) (strict : Bool) (draft : Draft) (value : List ℕ)
+  pub answers_small : (had has : Bool) (slots capacity : ℕ) (strict : Bool) (draft : Draft) (value :
+      List ℕ)
       (v w : View T) (answer : Result Inserted Refused)
-      → InsertedBy slots capacity strict draft value answer v w
+      → InsertedBy had has slots capacity strict draft value answer v w
       → (strict ≡ true → draft.charge ≤ capacity) → answer_of answer ≡ Err answers.TooLarge → ⊥
-  answers_small slots capacity strict draft value v w (Ok Placed) told small same = cc
-  answers_small slots capacity strict draft value v w (Ok Dropped) told small same = cc
-  answers_small slots capacity strict draft value v w (Err why) told small same =
+  answers_small had has slots capacity strict draft value v w (Ok Placed) told small same = cc
+  answers_small had has slots capacity strict draft value v w (Ok Dropped) told small same = cc
+  answers_small had has slots capacity strict draft value v w (Err why) told small same =
       let is : error_of why ≡ answers.TooLarge = cc in
-      not_large slots capacity strict draft v w why told small is
+      not_large had has slots capacity strict draft v w why told small is
 
   module _ (cache : Cache T) (key : Key) (charge : ℕ) (priority : Priority) (value : List ℕ)
       (old new : Client T) where
     -- The answer is told, without a handle
-    pub inserts_told : (answer : Result Inserted Refused)
+    pub inserts_told : (had has : Bool) (answer : Result Inserted Refused)
         → (answer_of answer ≡ Err answers.TooLarge → ⊥)
-        → Stores cache key charge priority value answer old new
-        → Inserts cache key charge priority value (answer_of answer) old new
-    inserts_told (Ok Placed) fits stores = stores
-    inserts_told (Ok Dropped) fits stores = stores
-    inserts_told (Err TooLarge) fits stores = absurd (fits refl)
-    inserts_told (Err CapacityFull) fits stores = stores
-    inserts_told (Err OccupancyFull) fits stores = stores
+        → StoresListed cache key charge priority value had has answer old new
+        → InsertsListed cache key charge priority value had has (answer_of answer) old new
+    inserts_told had has (Ok Placed) fits stores = stores
+    inserts_told had has (Ok Dropped) fits stores = stores
+    inserts_told had has (Err TooLarge) fits stores = absurd (fits refl)
+    inserts_told had has (Err CapacityFull) fits stores = stores
+    inserts_told had has (Err OccupancyFull) fits stores = stores
 
     -- and the refusal with one.
-    pub refuses_told : (why : Refused) → (error_of why ≡ answers.TooLarge → ⊥)
-        → Fails cache key charge priority value why old new
-        → RefusesWith cache key charge priority value (error_of why) old new
-    refuses_told TooLarge fits fails = absurd (fits refl)
-    refuses_told CapacityFull fits fails = fails
-    refuses_told OccupancyFull fits fails = fails
+    pub refuses_told : (had has : Bool) (why : Refused) → (error_of why ≡ answers.TooLarge → ⊥)
+        → Fails cache key charge priority value had has why old new
+        → RefusesWithListed cache key charge priority value had has (error_of why) old new
+    refuses_told had has TooLarge fits fails = absurd (fits refl)
+    refuses_told had has CapacityFull fits fails = fails
+    refuses_told had has OccupancyFull fits fails = fails
 
     module _ (fits : T → Key → List ℕ → Type 0) where
       -- So is what it did at its shard.
-      pub inserts_did : (answer : Result Inserted Refused)
+      pub inserts_did : (had has : Bool) (answer : Result Inserted Refused)
           → (answer_of answer ≡ Err answers.TooLarge → ⊥)
-          → StoresAt cache fits key charge priority answer old new
-          → InsertsAt cache fits key charge priority (answer_of answer) old new
-      inserts_did (Ok Placed) small did = did
-      inserts_did (Ok Dropped) small did = did
-      inserts_did (Err TooLarge) small did = absurd (small refl)
-      inserts_did (Err CapacityFull) small did = did
-      inserts_did (Err OccupancyFull) small did = did
+          → StoresAtListed cache fits key charge priority had has answer old new
+          → InsertsAtListed cache fits key charge priority had has (answer_of answer) old new
+      inserts_did had has (Ok Placed) small did = did
+      inserts_did had has (Ok Dropped) small did = did
+      inserts_did had has (Err TooLarge) small did = absurd (small refl)
+      inserts_did had has (Err CapacityFull) small did = did
+      inserts_did had has (Err OccupancyFull) small did = did
 
-      pub refuses_did : (why : Refused) → (error_of why ≡ answers.TooLarge → ⊥)
-          → PinsAt cache fits key charge priority (Err why) old new
-          → RefusesPinnedAt cache fits key charge priority (error_of why) old new
-      refuses_did TooLarge small did = absurd (small refl)
-      refuses_did CapacityFull small did = did
-      refuses_did OccupancyFull small did = did
+      pub refuses_did : (had has : Bool) (why : Refused) → (error_of why ≡ answers.TooLarge → ⊥)
+          → PinsAtListed cache fits key charge priority had has (Err why) old new
+          → RefusesPinnedAtListed cache fits key charge priority had has (error_of why) old new
+      refuses_did had has TooLarge small did = absurd (small refl)
+      refuses_did had has CapacityFull small did = did
+      refuses_did had has OccupancyFull small did = did

@@ -19,6 +19,7 @@ use Rattle.hcc_shard.specs.Callers.{capacity_of, geometry_of, is_strict, view_of
 use Rattle.hcc_shard.specs.Inserted.{PinnedBy}
 use Rattle.hcc_shard.specs.Seated.{Rests}
 use Rattle.hcc_shard.proofs.Names.{each_more}
+use Rattle.hcc_cache.specs.Alones.{bytes_of}
 use Rattle.hcc_cache.specs.declared.cache.Cache.{Cache}
 use Rattle.hcc_cache.specs.declared.client.Client.{Client}
 use Rattle.hcc_cache.specs.declared.handle.Handle.{Handle}
@@ -82,20 +83,24 @@ module _ {T : Type 0} (cache : Cache T) (old new : Client T) (i : ℕ) (shard : 
       omega arith
 
   -- What the shard answered, in the cache's words.
-  pub pinned_told : (draft asked : Draft) → draft ≡ asked → (bytes value : List ℕ) → bytes ≡ value
+  pub pinned_told : (had has : Bool) (draft asked : Draft) → draft ≡ asked → (bytes value : List ℕ)
+      → bytes ≡ value
       → (answer told : Answered) → answer ≡ told
-      → PinnedBy (geometry_of shard).slots (capacity_of shard) (is_strict shard) draft bytes
+      → PinnedBy had has (geometry_of shard).slots (capacity_of shard) (is_strict shard) draft
+      bytes
       (Ok answer) (view_of was) (view_of is)
-      → PinnedBy cache.geometry.slots cache.capacity cache.strict asked value (Ok told)
+      → PinnedBy had has cache.geometry.slots cache.capacity cache.strict asked value (Ok told)
       (view_of was) (view_of is)
-  pinned_told draft asked same bytes value read answer told named by_shard =
+  pinned_told had has draft asked same bytes value read answer told named by_shard =
       told_as cache old new i shard was is at
-      (λ s b p d. PinnedBy s b p d value (Ok told) (view_of was) (view_of is)) draft asked same
+      (λ s b p d. PinnedBy had has s b p d value (Ok told) (view_of was) (view_of is)) draft asked
+      same
       (subst (λ x. At x told) read (subst (At bytes) named by_shard))
     where
       At : List ℕ → Answered → Type 0
       At x o =
-          PinnedBy (geometry_of shard).slots (capacity_of shard) (is_strict shard) draft x (Ok o)
+          PinnedBy had has (geometry_of shard).slots (capacity_of shard) (is_strict shard) draft x
+          (Ok o)
           (view_of was) (view_of is)
 
   module _ (change : ChangesAt old new i is) (rests : Rests shard is) (handle : Handle) (key : Key)
@@ -219,9 +224,10 @@ module _ {T : Type 0} (cache : Cache T) (old new : Client T) (i : ℕ) (shard : 
     module _ (charge : ℕ) (priority : Priority) (value : List ℕ) (here : i ≡ shard_in cache key)
       where
         -- The entry was placed, and the handle is on it:
-        module _ (pin : Pin) (undone : key_from cache.seed (key_to cache.seed key) ≡ key)
+        module _ (had has : Bool) (pin : Pin) (undone : key_from cache.seed (key_to cache.seed key)
+            ≡ key)
             (alone : new.alone ≡ old.alone) (kept_is : kept ≡ Pinned pin.slot pin.counting)
-            (told : PinnedBy cache.geometry.slots cache.capacity cache.strict
+            (told : PinnedBy had has cache.geometry.slots cache.capacity cache.strict
             (pinned_draft cache key charge priority value old) value (Ok (pinned.Placed pin))
             (view_of was) (view_of is)) where
           abbrev handled : Record
@@ -234,7 +240,7 @@ module _ {T : Type 0} (cache : Cache T) (old new : Client T) (i : ℕ) (shard : 
               ((view_of was).records ++ handled ∷ []) (view_of was).work.standalones (view_of was)
               (view_of is)
           left_placed =
-              leaves_pinned cache.geometry.slots cache.capacity cache.strict
+              leaves_pinned had has cache.geometry.slots cache.capacity cache.strict
               (pinned_draft cache key charge priority value old) value (view_of was) (view_of is)
               pin.slot old.used refl told.0
 
@@ -243,7 +249,7 @@ module _ {T : Type 0} (cache : Cache T) (old new : Client T) (i : ℕ) (shard : 
               knows_placed pin.slot pin.counting handled alone kept_is left_placed refl
               (refl, refl, sym told.2) refl here small
 
-          pub pins_at : Pins cache key charge priority value handle old new
+          pub pins_at : Pins cache key charge priority value had has handle old new
           pins_at = record {
             pin = pin;
             asks = record {
@@ -264,15 +270,16 @@ module _ {T : Type 0} (cache : Cache T) (old new : Client T) (i : ℕ) (shard : 
           }
 
         -- or it stands alone.
-        pub stands_at : (index : ℕ) (a : Alone) → kept ≡ Standing index → a.charge ≡ charge
-            → a.value.items ≡ value
+        pub stands_at : (had has : Bool) (index : ℕ) (a : Alone) → kept ≡ Standing index → a.charge
+            ≡ charge
+            → bytes_of a.value ≡ value
             → IsTried (key_to cache.seed key) old.used (view_of was) (view_of is)
             → IsJoined old.used was is old.alone new.alone index a
-            → PinnedBy cache.geometry.slots cache.capacity cache.strict
+            → PinnedBy had has cache.geometry.slots cache.capacity cache.strict
             (pinned_draft cache key charge priority value old) value (Ok pinned.Standalone)
             (view_of was) (view_of is)
-            → Stands cache key charge priority value handle old new
-        stands_at index a kept_is paid bytes tried joined told = record {
+            → Stands cache key charge priority value had has handle old new
+        stands_at had has index a kept_is paid bytes tried joined told = record {
           asks = record {
             v = view_of was;
             w = view_of is;

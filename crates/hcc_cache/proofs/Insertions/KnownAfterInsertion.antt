@@ -21,7 +21,7 @@ use Rattle.hcc_shard.specs.declared.inserting.Pinned.{Pinned}
 use Rattle.hcc_shard.specs.declared.seat.ShardSeat.{ShardSeat}
 use Rattle.hcc_shard.specs.declared.shard.Shard.{Shard}
 use Rattle.hcc_shard.specs.Callers.{capacity_of, geometry_of, is_strict, plan_of, steps_of, view_of}
-use Rattle.hcc_shard.specs.Inserted.{InsertedBy, IsInsertable, IsUnshown, MakesNoEntry, RefusedBy, Shows, inserting, inserting_between}
+use Rattle.hcc_shard.specs.Inserted.{InsertedBy, IsInsertable, IsUnshown, MakesNoEntry, RefusedBy, Shows, inserting_listed, listed_between}
 use Rattle.hcc_shard.specs.Reserving.{InsertedAs, PinnedAs}
 use Rattle.hcc_shard.specs.Seated.{Rests}
 use Rattle.hcc_shard.proofs.Names.{above_later, above_more, each_more, length_more}
@@ -30,7 +30,7 @@ use Rattle.hcc_cache.specs.declared.client.Client.{Client}
 use Rattle.hcc_cache.specs.declared.priority.Priority.{Priority}
 use Rattle.hcc_cache.specs.declared.seeded.Seeded.{Seeded}
 use Rattle.hcc_cache.specs.Calls.{TakesAtMost, TakesFor, UsesOne, shard_in}
-use Rattle.hcc_cache.specs.Inserts.{Fails, KeepsHandles, PinsAt, Stores, StoresAt, draft_of, pinned_draft}
+use Rattle.hcc_cache.specs.Inserts.{Fails, KeepsHandles, PinsAtListed, StoresAtListed, StoresListed, draft_of, pinned_draft}
 use Rattle.hcc_cache.specs.Keys.{fits_seeded, key_from}
 use Rattle.hcc_cache.specs.Sharding.{key_to, shard_of}
 use Rattle.hcc_cache.specs.Known.{AreCharged, IsHome, IsSeated, Knows}
@@ -119,72 +119,72 @@ module _ {T : Type 0} where
         standalones_are = ap (λ (z : View T). z.work.standalones) same;
       }
 
-  module _ (slots capacity : ℕ) (strict : Bool) (draft : Draft) (value : List ℕ) (v w : View T)
-    where
-      -- no entry was made
-      leaves_none : (standalones : List Standalone)
-          → MakesNoEntry slots capacity strict draft standalones v w
-          → Leaves draft.key draft.serial v.records standalones v w
-      leaves_none standalones tries =
-          leaves_by v w _ (tries.same) refl refl draft.key draft.serial (inl refl)
+  module _ (had has : Bool) (slots capacity : ℕ) (strict : Bool) (draft : Draft) (value : List ℕ)
+      (v w : View T) where
+    -- no entry was made
+    leaves_none : (standalones : List Standalone)
+        → MakesNoEntry had has slots capacity strict draft standalones v w
+        → Leaves draft.key draft.serial v.records standalones v w
+    leaves_none standalones tries =
+        leaves_by v w _ (tries.same) refl refl draft.key draft.serial (inl refl)
 
-      -- an entry was shown
-      leaves_shown : (slot : ℕ) → Shows slots capacity strict draft value slot v w
-          → Leaves draft.key draft.serial
-          (v.records ++ first_records slot draft.name (shown_entry v (made_of draft value)))
-          v.work.standalones v w
-      leaves_shown slot shows =
-          leaves_by v w _ (shows.tries.same) refl refl draft.key draft.serial
-          (inr (made_of draft value, refl, refl, refl))
+    -- an entry was shown
+    leaves_shown : (slot : ℕ) → Shows had has slots capacity strict draft value slot v w
+        → Leaves draft.key draft.serial
+        (v.records ++ first_records slot draft.name (shown_entry v (made_of draft value)))
+        v.work.standalones v w
+    leaves_shown slot shows =
+        leaves_by v w _ (shows.tries.same) refl refl draft.key draft.serial
+        (inr (made_of draft value, refl, refl, refl))
 
-      -- one was kept out of the table
-      pub leaves_unshown : (standalones : List Standalone)
-          → IsUnshown slots capacity strict draft standalones v w
-          → Leaves draft.key draft.serial v.records standalones v w
-      leaves_unshown standalones unshown = leaves_none standalones (unshown.tries)
+    -- one was kept out of the table
+    pub leaves_unshown : (standalones : List Standalone)
+        → IsUnshown had has slots capacity strict draft standalones v w
+        → Leaves draft.key draft.serial v.records standalones v w
+    leaves_unshown standalones unshown = leaves_none standalones (unshown.tries)
 
-      -- the shard refused it
-      pub leaves_refused : (why : Refused) → RefusedBy slots capacity strict draft why v w
-          → Leaves draft.key draft.serial v.records v.work.standalones v w
-      leaves_refused TooLarge told =
-          leaves_by v w v (told.2) refl refl draft.key draft.serial (inl refl)
-      leaves_refused CapacityFull told = leaves_none v.work.standalones (told.0)
-      leaves_refused OccupancyFull told = leaves_none v.work.standalones (told.0)
+    -- the shard refused it
+    pub leaves_refused : (why : Refused) → RefusedBy had has slots capacity strict draft why v w
+        → Leaves draft.key draft.serial v.records v.work.standalones v w
+    leaves_refused TooLarge told =
+        leaves_by v w v (told.2) refl refl draft.key draft.serial (inl refl)
+    leaves_refused CapacityFull told = leaves_none v.work.standalones (told.0)
+    leaves_refused OccupancyFull told = leaves_none v.work.standalones (told.0)
 
-      -- An insertion that keeps no reference leaves those that there were.
-      pub leaves_stored : (answer : Result Inserted Refused) → draft.name ≡ None
-          → InsertedBy slots capacity strict draft value answer v w
-          → Leaves draft.key draft.serial v.records v.work.standalones v w
-      leaves_stored (Ok Placed) unnamed told =
-          let shown = leaves_shown (told.0) (told.1) in
-          record {
-            tried = shown.tried;
-            records_are =
-                shown.records_are
-                ∙ (ap
-                (λ o. v.records ++ first_records (told.0) o (shown_entry v (made_of draft value)))
-                unnamed ∙ append-nil v.records);
-            standalones_are = shown.standalones_are;
-          }
-      leaves_stored (Ok Dropped) unnamed told = leaves_unshown v.work.standalones told
-      leaves_stored (Err why) unnamed told = leaves_refused why told
+    -- An insertion that keeps no reference leaves those that there were.
+    pub leaves_stored : (answer : Result Inserted Refused) → draft.name ≡ None
+        → InsertedBy had has slots capacity strict draft value answer v w
+        → Leaves draft.key draft.serial v.records v.work.standalones v w
+    leaves_stored (Ok Placed) unnamed told =
+        let shown = leaves_shown (told.0) (told.1) in
+        record {
+          tried = shown.tried;
+          records_are =
+              shown.records_are
+              ∙ (ap
+              (λ o. v.records ++ first_records (told.0) o (shown_entry v (made_of draft value)))
+              unnamed ∙ append-nil v.records);
+          standalones_are = shown.standalones_are;
+        }
+    leaves_stored (Ok Dropped) unnamed told = leaves_unshown v.work.standalones told
+    leaves_stored (Err why) unnamed told = leaves_refused why told
 
-      -- One that keeps a reference joins it.
-      pub leaves_pinned : (slot name : ℕ) → draft.name ≡ Some name
-          → Shows slots capacity strict draft value slot v w
-          → Leaves draft.key draft.serial
-          (v.records ++ first_record slot name (shown_entry v (made_of draft value)) ∷ [])
-          v.work.standalones v w
-      leaves_pinned slot name named shows =
-          let shown = leaves_shown slot shows in
-          record {
-            tried = shown.tried;
-            records_are =
-                shown.records_are
-                ∙ ap (λ o. v.records ++ first_records slot o (shown_entry v (made_of draft value)))
-                named;
-            standalones_are = shown.standalones_are;
-          }
+    -- One that keeps a reference joins it.
+    pub leaves_pinned : (slot name : ℕ) → draft.name ≡ Some name
+        → Shows had has slots capacity strict draft value slot v w
+        → Leaves draft.key draft.serial
+        (v.records ++ first_record slot name (shown_entry v (made_of draft value)) ∷ [])
+        v.work.standalones v w
+    leaves_pinned slot name named shows =
+        let shown = leaves_shown slot shows in
+        record {
+          tried = shown.tried;
+          records_are =
+              shown.records_are
+              ∙ ap (λ o. v.records ++ first_records slot o (shown_entry v (made_of draft value)))
+              named;
+          standalones_are = shown.standalones_are;
+        }
 
 -- Of a seat.
 
@@ -263,56 +263,56 @@ module _ {T : Type 0} where
       module _ (fits : T → Key → List ℕ → Type 0) (key : Key) (charge : ℕ) (priority : Priority)
           (here : i ≡ shard_in cache key) where
         -- what an insertion did at its shard,
-        pub stores_did : (draft : Draft) → draft ≡ draft_of cache key charge priority (λ c. None)
-            old
+        pub stores_did : (had has : Bool) (draft : Draft)
+            → draft ≡ draft_of cache key charge priority (λ c. None) old
             → (answer : Result Inserted Refused)
-            → InsertedAs (fits_seeded fits) shard draft answer was is
-            → StoresAt cache fits key charge priority answer old new
-        stores_did draft same answer did =
+            → InsertedAs (fits_seeded fits) shard draft had has answer was is
+            → StoresAtListed cache fits key charge priority had has answer old new
+        stores_did had has draft same answer did =
             did_at cache old new i shard was is at change
             (λ s a b. InsertedAs (fits_seeded fits) s
-            (draft_of cache key charge priority (λ c. None) old) answer a b)
-            (subst (λ d. InsertedAs (fits_seeded fits) shard d answer was is) same did)
+            (draft_of cache key charge priority (λ c. None) old) had has answer a b)
+            (subst (λ d. InsertedAs (fits_seeded fits) shard d had has answer was is) same did)
             (shard_in cache key) here
 
         -- and one that keeps a reference
-        pub pins_did : (draft : Draft)
+        pub pins_did : (had has : Bool) (draft : Draft)
             → draft ≡ draft_of cache key charge priority (λ c. Some c.used) old
             → (told answer : Result Pinned Refused) → told ≡ answer
-            → PinnedAs (fits_seeded fits) shard draft told was is
-            → PinsAt cache fits key charge priority answer old new
-        pins_did draft same told answer is_told did =
+            → PinnedAs (fits_seeded fits) shard draft had has told was is
+            → PinsAtListed cache fits key charge priority had has answer old new
+        pins_did had has draft same told answer is_told did =
             did_at cache old new i shard was is at change
             (λ s a b. PinnedAs (fits_seeded fits) s
-            (draft_of cache key charge priority (λ c. Some c.used) old) answer a b)
-            (subst (λ o. PinnedAs (fits_seeded fits) shard asked o was is) is_told
-            (subst (λ d. PinnedAs (fits_seeded fits) shard d told was is) same did))
+            (draft_of cache key charge priority (λ c. Some c.used) old) had has answer a b)
+            (subst (λ o. PinnedAs (fits_seeded fits) shard asked had has o was is) is_told
+            (subst (λ d. PinnedAs (fits_seeded fits) shard d had has told was is) same did))
             (shard_in cache key) here
           where
             asked : Draft
             asked = draft_of cache key charge priority (λ c. Some c.used) old
 
       -- the steps of an insertion
-      pub inserts_at : steps_of is
-          ≤ steps_of was + inserting (geometry_of shard).slots (geometry_of shard).room
-          → TakesAtMost (inserting cache.geometry.slots cache.geometry.room) old new
-      inserts_at few =
+      pub inserts_at : (loads : ℕ) → steps_of is
+          ≤ steps_of was + inserting_listed (geometry_of shard).slots (geometry_of shard).room loads
+          → TakesAtMost (inserting_listed cache.geometry.slots cache.geometry.room loads) old new
+      inserts_at loads few =
           let alike = at.knows.alike.plans i shard at.shard_is in
           takes_at cache old new i shard was is at change
-          (inserting cache.geometry.slots cache.geometry.room) (rw (← alike.0) few)
+          (inserting_listed cache.geometry.slots cache.geometry.room loads) (rw (← alike.0) few)
 
       -- and by what it turned and freed
-      pub frees_at : (number : ℕ) → i ≡ number
-          → MakesFor 7 (inserting_between (geometry_of shard).slots (geometry_of shard).room
+      pub frees_at : (loads number : ℕ) → i ≡ number
+          → MakesFor 7 (listed_between (geometry_of shard).slots (geometry_of shard).room loads
           (view_of was) (view_of is)) (geometry_of shard).slots was.effort is.effort was.seat
           is.seat
-          → TakesFor cache 7 (inserting_between cache.geometry.slots cache.geometry.room) number
+          → TakesFor cache 7 (listed_between cache.geometry.slots cache.geometry.room loads) number
           old new
-      frees_at number here makes =
+      frees_at loads number here makes =
           let alike = at.knows.alike.plans i shard at.shard_is in
           takes_for cache old new i shard was is at change 7
-          (inserting_between cache.geometry.slots cache.geometry.room (view_of was) (view_of is))
-          (inserting_between cache.geometry.slots cache.geometry.room) number here
+          (listed_between cache.geometry.slots cache.geometry.room loads (view_of was) (view_of is))
+          (listed_between cache.geometry.slots cache.geometry.room loads) number here
           (rw (← alike.0) makes) (omega arith)
 
       -- Where the client gained nothing, it is known still,
@@ -366,12 +366,12 @@ module _ {T : Type 0} where
         module _ (key : Key) (charge : ℕ) (priority : Priority) (value : List ℕ)
             (here : i ≡ shard_in cache key) where
           -- and the shard was asked for an entry without a reference,
-          pub stores_at : (answer : Result Inserted Refused)
-              → InsertedBy cache.geometry.slots cache.capacity cache.strict
+          pub stores_at : (had has : Bool) (answer : Result Inserted Refused)
+              → InsertedBy had has cache.geometry.slots cache.capacity cache.strict
               (draft_of cache key charge priority (λ c. None) old) value answer (view_of was)
               (view_of is)
-              → Stores cache key charge priority value answer old new
-          stores_at answer told = record {
+              → StoresListed cache key charge priority value had has answer old new
+          stores_at had has answer told = record {
             v = view_of was;
             w = view_of is;
             works = rw (← here) (works_at cache old new i shard was is at change);
@@ -380,11 +380,11 @@ module _ {T : Type 0} where
           }
 
           -- or refused one with a reference.
-          pub fails_at : (why : Refused)
-              → RefusedBy cache.geometry.slots cache.capacity cache.strict
+          pub fails_at : (had has : Bool) (why : Refused)
+              → RefusedBy had has cache.geometry.slots cache.capacity cache.strict
               (pinned_draft cache key charge priority value old) why (view_of was) (view_of is)
-              → Fails cache key charge priority value why old new
-          fails_at why told = record {
+              → Fails cache key charge priority value had has why old new
+          fails_at had has why told = record {
             asks = record {
               v = view_of was;
               w = view_of is;

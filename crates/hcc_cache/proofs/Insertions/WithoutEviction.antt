@@ -96,7 +96,7 @@ module _ {T : Type 0} (fits : T → Key → List ℕ → Type 0) (shard : Shard 
     (draft : Draft) (old new : ShardSeat (Seeded T)) where
   -- An insertion's reservation turned the hand no further than the insertion.
   turns_of : (answer : Result Reservation Refused)
-      (r : ReservedAs (fits_seeded fits) shard draft answer old new) → TurnsNone old new
+      (r : ReservedAs (fits_seeded fits) shard draft true true answer old new) → TurnsNone old new
       → (view r.reserved).turns ≡ (view old.seat).turns
   turns_of answer r same = sym r.idle.turns ∙ same
 
@@ -106,11 +106,12 @@ module _ {T : Type 0} (fits : T → Key → List ℕ → Type 0) (shard : Shard 
       → occupancy_of (world_at shard.table old.seat) < limit_of (setup_of (plan_of shard.table))
       → usage_of (world_at shard.table old.seat) + draft.charge ≤ capacity_of shard.table
       → (answer : Result Reservation Refused)
-      → ReservedAs (fits_seeded fits) shard draft answer old new
+      → ReservedAs (fits_seeded fits) shard draft true true answer old new
       → (answer ≡ Ok Reserved) × TurnsNone old new
   found_room one place room answer r =
       let began =
-      roomy (fits_seeded fits) shard.table draft.charge answer old.tally new.tally old.effort
+      roomy (fits_seeded fits) shard.table draft.charge true true answer old.tally new.tally
+      old.effort
       r.counted old.seat r.reserved one r.evicts place room in
       (began.0, r.idle.turns ∙ began.1)
 
@@ -121,20 +122,20 @@ module _ {T : Type 0} (fits : T → Key → List ℕ → Type 0) (shard : Shard 
       → standing_of (view old.seat).work + charge_made (view old.seat) + draft.charge
       ≤ capacity_of shard.table
       → (answer : Result Reservation Refused)
-      → ReservedAs (fits_seeded fits) shard draft answer old new
+      → ReservedAs (fits_seeded fits) shard draft true true answer old new
       → (answer ≡ Ok Reserved) × TurnsNone old new
   found_beside one place room answer r =
       let began =
-      roomy_beside (fits_seeded fits) shard.table draft.charge answer old.tally new.tally
+      roomy_beside (fits_seeded fits) shard.table draft.charge true true answer old.tally new.tally
       old.effort r.counted old.seat r.reserved one r.evicts place room in
       (began.0, r.idle.turns ∙ began.1)
 
   -- Where that is so of each reservation the insertion isn't refused,
   module _ (found : (answer : Result Reservation Refused)
-      → ReservedAs (fits_seeded fits) shard draft answer old new
+      → ReservedAs (fits_seeded fits) shard draft true true answer old new
       → (answer ≡ Ok Reserved) × TurnsNone old new) where
     pub found_idles : (answer : Result Inserted Refused)
-        → InsertedAs (fits_seeded fits) shard draft answer old new
+        → InsertedAs (fits_seeded fits) shard draft true true answer old new
         → IsOk answer × TurnsNone old new
     found_idles (Ok stored.Placed) did = (refl, (found (Ok Reserved) did.1.reserves).1)
     found_idles (Ok stored.Dropped) did = (refl, (found (Ok did.told) did.reserves).1)
@@ -142,7 +143,7 @@ module _ {T : Type 0} (fits : T → Key → List ℕ → Type 0) (shard : Shard 
         absurd (let is = (found (Err why) did.reserves).0 in let never : ⊥ = cc in never)
 
     pub found_idles_pinned : (answer : Result Pinned Refused)
-        → PinnedAs (fits_seeded fits) shard draft answer old new
+        → PinnedAs (fits_seeded fits) shard draft true true answer old new
         → IsOk answer × TurnsNone old new
     found_idles_pinned (Ok (pinned.Placed pin)) did =
         (refl, (found (Ok Reserved) did.reserves).1)
@@ -159,7 +160,7 @@ module _ {T : Type 0} (fits : T → Key → List ℕ → Type 0) (shard : Shard 
       (same : TurnsNone old new) where
     -- and where it turned the hand no further the probes were tried,
     shows_over : (answer : Insertion)
-        (r : ReservedAs (fits_seeded fits) shard draft (Ok Reserved) old new)
+        (r : ReservedAs (fits_seeded fits) shard draft true true (Ok Reserved) old new)
         → (t : TriesFrom (fits_seeded fits) shard draft r.reserved r.counted answer new)
         → GoesOnBy shard.table is_booking t.done new.seat
         → ShowsOver shard draft answer old new
@@ -169,7 +170,8 @@ module _ {T : Type 0} (fits : T → Key → List ℕ → Type 0) (shard : Shard 
           (world_at shard.table r.reserved) (world_at shard.table t.done)
           (world_at shard.table new.seat)
           (still_shows shard.table one old.seat r.reserved
-          (unturned_still (fits_seeded fits) shard.table draft.charge (Ok Reserved) old.tally
+          (unturned_still (fits_seeded fits) shard.table draft.charge true true (Ok Reserved)
+          old.tally
           new.tally old.effort r.counted old.seat r.reserved r.evicts
           (turns_of (Ok Reserved) r same)))
           (tells answer r.counted new.effort r.reserved t.done t.inserts)
@@ -177,14 +179,15 @@ module _ {T : Type 0} (fits : T → Key → List ℕ → Type 0) (shard : Shard 
           (booked_still shard.table t.done new.seat books));
       idle =
           keeps_then (view old.seat) (view r.reserved) (view new.seat)
-          (unturned (fits_seeded fits) shard.table draft.charge (Ok Reserved) old.tally new.tally
-          old.effort r.counted old.seat r.reserved r.evicts (turns_of (Ok Reserved) r same)).1
+          (unturned (fits_seeded fits) shard.table draft.charge true true (Ok Reserved) old.tally
+          new.tally
+          old.effort r.counted old.seat r.reserved r.evicts refl (turns_of (Ok Reserved) r same)).1
           r.idle;
     }
 
     -- where the entry was left out, too,
     left_over : (keeps : Bool) (told : Reservation) (matched : Bool)
-        (r : ReservedAs (fits_seeded fits) shard draft (Ok told) old new)
+        (r : ReservedAs (fits_seeded fits) shard draft true true (Ok told) old new)
         (t : TriesWhere (fits_seeded fits) shard draft told r.reserved r.counted
         (left_out matched) new)
         → EndsBy shard draft keeps told
@@ -197,25 +200,28 @@ module _ {T : Type 0} (fits : T → Key → List ℕ → Type 0) (shard : Shard 
           (ends_book shard draft keeps Reserved t.done new.seat ends),
     )
     left_over keeps NoPlace matched r t ends =
-        absurd (unturned (fits_seeded fits) shard.table draft.charge (Ok NoPlace) old.tally
-        new.tally old.effort r.counted old.seat r.reserved r.evicts
+        absurd (unturned (fits_seeded fits) shard.table draft.charge true true (Ok NoPlace)
+        old.tally
+        new.tally old.effort r.counted old.seat r.reserved r.evicts refl
         (turns_of (Ok NoPlace) r same)).0
 
     -- or it was refused at once,
-    refused_over : (why : Refused) → Refuses (fits_seeded fits) shard draft why old new
+    refused_over : (why : Refused) → Refuses (fits_seeded fits) shard draft true true why old new
         → (why ≡ TooLarge) × (new.seat ≡ old.seat)
     refused_over TooLarge h = (refl, h.ends ∙ h.reserves.evicts.2)
     refused_over CapacityFull h =
-        absurd (unturned (fits_seeded fits) shard.table draft.charge (Err CapacityFull) old.tally
-        new.tally old.effort h.reserves.counted old.seat h.reserves.reserved h.reserves.evicts
+        absurd (unturned (fits_seeded fits) shard.table draft.charge true true (Err CapacityFull)
+        old.tally
+        new.tally old.effort h.reserves.counted old.seat h.reserves.reserved h.reserves.evicts refl
         (turns_of (Err CapacityFull) h.reserves same)).0
     refused_over OccupancyFull h =
-        absurd (unturned (fits_seeded fits) shard.table draft.charge (Err OccupancyFull) old.tally
-        new.tally old.effort h.reserves.counted old.seat h.reserves.reserved h.reserves.evicts
+        absurd (unturned (fits_seeded fits) shard.table draft.charge true true (Err OccupancyFull)
+        old.tally
+        new.tally old.effort h.reserves.counted old.seat h.reserves.reserved h.reserves.evicts refl
         (turns_of (Err OccupancyFull) h.reserves same)).0
 
     -- or its entry was put in a slot:
-    placed_over : (slot : ℕ) → PutsIn (fits_seeded fits) shard draft slot old new
+    placed_over : (slot : ℕ) → PutsIn (fits_seeded fits) shard draft true true slot old new
         → ShowsOver shard draft (Placed slot) old new
     placed_over slot did =
         shows_over (Placed slot) did.reserves did.tries
@@ -223,7 +229,7 @@ module _ {T : Type 0} (fits : T → Key → List ℕ → Type 0) (shard : Shard 
 
     -- by its answer,
     pub keeps_as : (answer : Result Inserted Refused)
-        (did : InsertedAs (fits_seeded fits) shard draft answer old new)
+        (did : InsertedAs (fits_seeded fits) shard draft true true answer old new)
         → KeepsAs shard draft fits answer old new did
     keeps_as (Ok stored.Placed) did = placed_over did.0 did.1
     keeps_as (Ok stored.Dropped) did =
@@ -232,7 +238,7 @@ module _ {T : Type 0} (fits : T → Key → List ℕ → Type 0) (shard : Shard 
 
     -- and so one that keeps a reference.
     pub keeps_pinned_as : (answer : Result Pinned Refused)
-        (did : PinnedAs (fits_seeded fits) shard draft answer old new)
+        (did : PinnedAs (fits_seeded fits) shard draft true true answer old new)
         → KeepsPinnedAs shard draft fits answer old new did
     keeps_pinned_as (Ok (pinned.Placed pin)) did = placed_over pin.slot did
     keeps_pinned_as (Ok pinned.Standalone) did =
@@ -258,7 +264,7 @@ module _ {T : Type 0} (fits : T → Key → List ℕ → Type 0) (shard : Shard 
 
   -- behind an insertion that turned the hand no further,
   pub keeps_keys : (answer : Result Inserted Refused)
-      (did : InsertedAs (fits_seeded fits) shard draft answer old new)
+      (did : InsertedAs (fits_seeded fits) shard draft true true answer old new)
       → KeepsAs shard draft fits answer old new did → KeepsKeys
   keeps_keys (Ok stored.Placed) did h = over_keeps (Placed did.0) h
   keeps_keys (Ok stored.Dropped) did h = over_keeps (left_out did.matched) h.1
@@ -266,7 +272,7 @@ module _ {T : Type 0} (fits : T → Key → List ℕ → Type 0) (shard : Shard 
 
   -- and behind one that keeps a reference.
   pub keeps_pinned_keys : (answer : Result Pinned Refused)
-      (did : PinnedAs (fits_seeded fits) shard draft answer old new)
+      (did : PinnedAs (fits_seeded fits) shard draft true true answer old new)
       → KeepsPinnedAs shard draft fits answer old new did → KeepsKeys
   keeps_pinned_keys (Ok (pinned.Placed pin)) did h = over_keeps (Placed pin.slot) h
   keeps_pinned_keys (Ok pinned.Standalone) did h = over_keeps (left_out did.matched) h.1

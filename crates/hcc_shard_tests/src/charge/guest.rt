@@ -10,7 +10,7 @@ ghost use Rattle.hcc_shard_tests.specs.declared.charge.guest.TheConstants.{MOST}
 use crate::any::AnyBytes;
 use hcc_charge::{Refused, Reservation, Tally, give_up, reserve};
 use hcc_rule::{Draft, Key, RuleSeat, RuleTable};
-use hcc_table::{Effort, Insertion, insert};
+use hcc_table::{Effort, Insertion, NoList, insert};
 use std::alloc::Global;
 use std::process::Abort;
 
@@ -76,6 +76,7 @@ impl Guest<'_> {
             self.table,
             &mut self.seat,
             charge,
+            &mut NoList,
             &mut self.tally,
             &mut self.effort,
         );
@@ -100,6 +101,7 @@ impl Guest<'_> {
             self.table,
             &mut self.seat,
             charge,
+            &mut NoList,
             &mut self.tally,
             &mut self.effort,
         );

@@ -10,7 +10,7 @@ use hcc_charge::{
     Reservation, Tally, evict, keep_charge, reserve, settle, standalone_in, standalone_out,
 };
 use hcc_rule::{Geometry, Key, RuleTable};
-use hcc_table::Effort;
+use hcc_table::{Effort, NoList};
 use std::alloc::{AllocError, Global};
 use std::process::Abort;
 
@@ -235,7 +235,7 @@ fn standalone_entries_come_and_go(rt: HostRuntime) -> Result<(), AllocError> {
     )?;
     let mut seat = seats.pop().expect(&rt, "no seat is left");
     let (mut tally, mut effort) = (Tally::NONE, Effort::NONE);
-    let reserved = reserve(&table, &mut seat, 40, &mut tally, &mut effort);
+    let reserved = reserve(&table, &mut seat, 40, &mut NoList, &mut tally, &mut effort);
     if reserved != Ok(Reservation::Reserved) {
         panic!(&rt; "there is room");
     }
@@ -254,7 +254,7 @@ fn standalone_entries_come_and_go(rt: HostRuntime) -> Result<(), AllocError> {
     standalone_out(&table, &mut seat, 7, 40);
     standalone_out(&table, &mut seat, 8, 30);
     assert_eq!(rt; [table.usage(&mut seat), table.standing(&mut seat)], [0, 0]);
-    let swept = evict(&table, &mut seat, 1, &mut tally, &mut effort);
+    let swept = evict(&table, &mut seat, 1, &mut NoList, &mut tally, &mut effort);
     assert_eq!(rt;
         [swept.turns, swept.slots, swept.charge, tally.turns],
         [7, 0, 0, 7]

@@ -13,7 +13,7 @@ use hcc_charge::Refused;
 use hcc_core::client::Standalone;
 use hcc_rule::{Draft, Geometry, Key};
 use hcc_shard::{Inserted, Pinned, Shard, ShardSeat};
-use hcc_table::{IfLast, Pin, Use};
+use hcc_table::{IfLast, NoList, Pin, Use};
 use std::alloc::{AllocError, Global};
 use std::process::Abort;
 
@@ -57,7 +57,7 @@ impl Guest<'_> {
     {
         let mut draft = self.draft(rt, key, charge, countdown, value);
         draft.name = None;
-        let answer = self.shard.insert(&mut self.seat, draft, value);
+        let answer = self.shard.insert(&mut self.seat, draft, value, &mut NoList);
         self.next += 1;
         answer
     }
@@ -80,7 +80,9 @@ impl Guest<'_> {
         self.pins.reserve(1)?;
         self.standing.reserve(1)?;
         let draft = self.draft(rt, key, charge, countdown, value);
-        let answer = self.shard.insert_pinned(&mut self.seat, draft, value);
+        let answer = self
+            .shard
+            .insert_pinned(&mut self.seat, draft, value, &mut NoList);
         self.next += 1;
         match answer {
             Ok(pinned) => match pinned {
@@ -158,7 +160,8 @@ impl Guest<'_> {
         let pin = self.pin(rt, name);
         let place = place_of(&self.pins, name).expect(rt, "no such pin");
         self.pins.remove(place);
-        self.shard.release(&mut self.seat, pin, as_use, last)
+        self.shard
+            .release(&mut self.seat, pin, as_use, last, &mut NoList)
     }
 
     /// Lets a standalone entry go, by its name.
@@ -185,7 +188,7 @@ impl Guest<'_> {
         ensures keeps { IsGuest self.new.shard.now self.new.seat self.new.pins.items
             self.new.standing.items self.new.next }
     {
-        self.shard.erase(&mut self.seat, key)
+        self.shard.erase(&mut self.seat, key, &mut NoList)
     }
 
     /// The key of a pin's entry, how long its value is, and its bytes with 0 behind them.

@@ -15,8 +15,8 @@ ghost use Rattle.hcc_shard_tests.specs.Handles.{HoldsOne, IsPin, IsSmall};
 use crate::any::AnyBytes;
 use hcc_rule::{Draft, Key, RuleSeat, RuleTable};
 use hcc_table::{
-    ClockVisit, Effort, Erased, IfLast, Insertion, Pin, Use, displacement, find, hide, insert,
-    release, visit, word,
+    ClockVisit, Effort, Erased, IfLast, Insertion, NoList, Pin, Use, displacement, find, hide,
+    insert, release, visit, word,
 };
 use std::alloc::Global;
 use std::process::Abort;
@@ -193,6 +193,7 @@ impl Caller<'_> {
             found,
             as_use,
             last,
+            &mut NoList,
             &mut self.effort,
         );
         if let Some(charge) = freed {
@@ -207,7 +208,14 @@ impl Caller<'_> {
         ensures same { self.new.table ≡ self.old.table }
         ensures ready { IsReady (view self.new.seat) }
     {
-        let erased = hide(self.table, &mut self.seat, key, NAME, &mut self.effort);
+        let erased = hide(
+            self.table,
+            &mut self.seat,
+            key,
+            NAME,
+            &mut NoList,
+            &mut self.effort,
+        );
         self.settle(erased.slots as u64, erased.charge);
         erased
     }
@@ -219,7 +227,13 @@ impl Caller<'_> {
         ensures same { self.new.table ≡ self.old.table }
         ensures ready { IsReady (view self.new.seat) }
     {
-        let done = visit(self.table, &mut self.seat, slot, &mut self.effort);
+        let done = visit(
+            self.table,
+            &mut self.seat,
+            slot,
+            &mut NoList,
+            &mut self.effort,
+        );
         if let ClockVisit::Freed { charge, .. } = done {
             self.settle(1, charge);
         }

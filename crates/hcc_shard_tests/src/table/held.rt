@@ -8,8 +8,8 @@ ghost use Rattle.hcc_shard_tests.specs.Handles.{HoldsOne, IsPin};
 use super::caller::{Caller, NAME};
 use hcc_rule::{Key, SlotAt};
 use hcc_table::{
-    IfLast, Insertion, Pin, PinAt, Use, again, find, free_taken, insert, pinned_charge, read_bytes,
-    read_key, read_len, release, word,
+    IfLast, Insertion, NoList, Pin, PinAt, Use, again, find, free_taken, insert, pinned_charge,
+    read_bytes, read_key, read_len, release, word,
 };
 use hcc_word::layout::INVISIBLE;
 use hcc_word::{refs, state};
@@ -125,6 +125,7 @@ impl Caller<'_> {
             other,
             Use::Useful,
             IfLast::Keep,
+            &mut NoList,
             &mut self.effort,
         );
         assert!(rt; freed == None, "the entry is held");

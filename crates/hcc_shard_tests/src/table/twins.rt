@@ -13,8 +13,8 @@ use super::caller::{Caller, NAME};
 use super::held::OTHER;
 use hcc_rule::Key;
 use hcc_table::{
-    ClockVisit, Erased, IfLast, Insertion, Pin, Use, find, hide, insert, read_bytes, release,
-    visit, word,
+    ClockVisit, Erased, IfLast, Insertion, NoList, Pin, Use, find, hide, insert, read_bytes,
+    release, visit, word,
 };
 use std::process::Abort;
 
@@ -30,7 +30,14 @@ impl Caller<'_> {
         ensures pin { IsPin (slots_of self.new.table.now) NAME found }
         ensures holds { HoldsOne found (view self.new.seat) }
     {
-        let erased = hide(self.table, &mut self.seat, key, OTHER, &mut self.effort);
+        let erased = hide(
+            self.table,
+            &mut self.seat,
+            key,
+            OTHER,
+            &mut NoList,
+            &mut self.effort,
+        );
         assert!(rt;
             erased.slots == 0 && erased.charge == 0,
             "an entry was freed"
@@ -46,7 +53,13 @@ impl Caller<'_> {
         ensures pin { IsPin (slots_of self.new.table.now) NAME found }
         ensures holds { HoldsOne found (view self.new.seat) }
     {
-        let done = visit(self.table, &mut self.seat, found.slot, &mut self.effort);
+        let done = visit(
+            self.table,
+            &mut self.seat,
+            found.slot,
+            &mut NoList,
+            &mut self.effort,
+        );
         assert!(rt;
             done == ClockVisit::Pinned,
             "the clock didn't see the handle"
@@ -200,6 +213,7 @@ impl Caller<'_> {
             third,
             Use::NotUseful,
             IfLast::Keep,
+            &mut NoList,
             &mut self.effort,
         );
         assert!(rt; freed == None, "the entry is held");
@@ -249,6 +263,7 @@ impl Caller<'_> {
             two,
             as_use,
             last,
+            &mut NoList,
             &mut self.effort,
         );
         assert!(rt; freed == None, "the entry was freed");

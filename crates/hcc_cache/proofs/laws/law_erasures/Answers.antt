@@ -1,4 +1,4 @@
-use Rattle.std.proofs.Common.{◌≡◌, ℕ, ap, subst, ◌∙◌}
+use Rattle.std.proofs.Common.{◌≡◌, ℕ, ap, subst, ◌∙◌, true}
 use Rattle.std.specs.Prelude.{IsSomeAnd}
 use Rattle.hcc_core.specs.World.{State}
 use Rattle.hcc_rule.specs.declared.geometry.Geometry.{Geometry}
@@ -32,7 +32,7 @@ returns g c config tag cache is_of one key hidden old new h =
     let seeded = key_to cache.seed key in
     let was = world_at h.shard.table h.was.seat in
     let is = world_at h.shard.table h.is.seat in
-    let hides = c.law_hidden_alone.ensures.hides h.shard.table seeded IN_FLIGHT h.did.all
+    let hides = c.law_hidden_alone.ensures.hides h.shard.table seeded IN_FLIGHT true h.did.all
     h.was.effort h.is.effort h.was.seat h.did.mid alone h.did.hides in
     let stays = c.law_hidden_alone.ensures.settles h.shard.table h.did.mid h.is.seat alone
     h.did.settles in

@@ -48,7 +48,7 @@ module _ {T : Type 0} (fits : T → Key → List ℕ → Type 0) (shard : Shard 
   shows_where NoPlace reserved counted answer new t = tt
 
   shows_as : (answer : Result Inserted Refused) (old new : ShardSeat (Seeded T))
-      (did : InsertedAs (fits_seeded fits) shard draft answer old new)
+      (did : InsertedAs (fits_seeded fits) shard draft true true answer old new)
       → ShowsAs fits shard draft answer old new did
   shows_as (Ok stored.Placed) old new did =
       shows_from did.1.reserves.reserved did.1.reserves.counted _ new did.1.tries
@@ -57,7 +57,7 @@ module _ {T : Type 0} (fits : T → Key → List ℕ → Type 0) (shard : Shard 
   shows_as (Err why) old new did = tt
 
   shows_pinned : (answer : Result Pinned Refused) (old new : ShardSeat (Seeded T))
-      (did : PinnedAs (fits_seeded fits) shard draft answer old new)
+      (did : PinnedAs (fits_seeded fits) shard draft true true answer old new)
       → ShowsPinnedAs fits shard draft answer old new did
   shows_pinned (Ok (pinned.Placed pin)) old new did =
       shows_from did.reserves.reserved did.reserves.counted _ new did.tries

@@ -16,5 +16,6 @@ pub returns-clause-steps : goal.returns-clause-steps
 returns-clause-steps g c =
     let told = c.visit.ensures in
     rw c.of.ensures
-    (visit_few g.T.Tag.fits c.args.table.now c.args.slot c.visit.result c.args.seat.now
+    (visit_few g.T.Tag.fits c.args.table.now g.L.FreedList.loads c.args.slot c.visit.result
+    c.args.seat.now
     c.visit.new.seat told.visit told.steps)

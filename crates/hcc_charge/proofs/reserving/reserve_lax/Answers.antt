@@ -1,4 +1,4 @@
-use Rattle.std.proofs.Common.{◌≡◌, ◌<◌, true, sym, subst, refl, ◌∙◌, arith}
+use Rattle.std.proofs.Common.{◌≡◌, ◌+◌, ◌<◌, true, sym, subst, refl, ◌∙◌, arith}
 use Rattle.hcc_rule.specs.Callers.{plan_of, slots_of}
 use Rattle.hcc_rule.specs.Events.{charge_done, quit_done}
 use Rattle.hcc_rule.specs.Rule.{setup_of}
@@ -6,6 +6,7 @@ use Rattle.hcc_rule.specs.Seats.{SeatOf, view}
 use Rattle.hcc_table.specs.Seeking.{GoesOnBy, is_booking}
 use Rattle.hcc_table.proofs.Seeking.{goes_event, goes_then}
 use Rattle.hcc_table.proofs.Still.{settled_books}
+use Rattle.hcc_charge.specs.Evicted.{turn_room}
 use Rattle.hcc_charge.specs.Asked.{EvictsAsAsked, EvictsNothing, Grants}
 use Rattle.hcc_charge.proofs.Answered.{lax_refused, lax_reserved}
 use Rattle.hcc_charge.proofs.Askings.{asked_lax, between_is, evicts_as_asked, keeps_by, keeps_then, lacked_lax}
@@ -17,7 +18,9 @@ pub returns-then-swept-eq0-clause-view : goal.returns-then-swept-eq0-clause-view
 returns-then-swept-eq0-clause-view g c =
     let table = c.args.table.now in
     let told = c.evict_for-swept.ensures in
-    lax_refused (setup_of (plan_of table)) table.geometry.slots table.capacity c.args.charge
+    lax_refused (turn_room (g.L.FreedList.shelf c.args.list.now))
+    (turn_room (g.L.FreedList.shelf c.evict_for-swept.new.list))
+    (setup_of (plan_of table)) table.geometry.slots table.capacity c.args.charge
     c.usage-used.result c.enter-full.result c.evict_for-swept.result (view c.args.seat.now)
     c.requires.idle c.enter-full.ensures.view told.view (table.planned.2 ∙ c.requires.lax)
     c.requires.some c.usage-used.ensures.view
@@ -37,7 +40,9 @@ pub returns-clause-view : goal.returns-clause-view
 returns-clause-view g c =
     let table = c.args.table.now in
     let told = c.evict_for-swept.ensures in
-    lax_reserved (setup_of (plan_of table)) table.geometry.slots table.capacity c.args.charge
+    lax_reserved (turn_room (g.L.FreedList.shelf c.args.list.now))
+    (turn_room (g.L.FreedList.shelf c.evict_for-swept.new.list))
+    (setup_of (plan_of table)) table.geometry.slots table.capacity c.args.charge
     c.usage-used.result c.enter-full.result c.evict_for-swept.result (view c.args.seat.now)
     c.requires.idle c.enter-full.ensures.view told.view (table.planned.2 ∙ c.requires.lax)
     c.requires.some c.usage-used.ensures.view
@@ -51,7 +56,10 @@ returns-clause-view g c =
 abbrev evicted : (g : given.Over) (c : After-evict_for-swept g) (d : SeatOf g.row.T.Denot)
     → EvictsNothing (view c.evict_for-swept.new.seat) (view d)
     → GoesOnBy c.args.table.now is_booking c.evict_for-swept.new.seat d
-    → EvictsAsAsked g.T.Tag.fits c.args.table.now c.args.charge c.args.tally.now
+    → EvictsAsAsked g.T.Tag.fits c.args.table.now c.args.charge
+    (turn_room (g.L.FreedList.shelf c.args.list.now))
+    (turn_room (g.L.FreedList.shelf c.evict_for-swept.new.list))
+    c.args.tally.now
     c.evict_for-swept.new.tally c.args.effort.now c.evict_for-swept.new.effort c.args.seat.now d
 evicted g c =
     let told = c.evict_for-swept.ensures in
@@ -125,7 +133,7 @@ pub returns-clause-steps : goal.returns-clause-steps
 returns-clause-steps g c =
     let e = evicted g (goal.at.returns-clause-steps g c).After-evict_for-swept
     c.give_charge.new.seat (idle g c) (behind g c) in
-    rw (between_is (slots_of c.args.table.now) c.evict_for-swept.result.turns
+    rw (between_is (slots_of c.args.table.now + g.L.FreedList.loads) c.evict_for-swept.result.turns
     c.evict_for-swept.result.slots (view c.args.seat.now) (view c.give_charge.new.seat)
     e.turns e.takings)
     (omega arith)

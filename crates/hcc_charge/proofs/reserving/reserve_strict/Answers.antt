@@ -1,10 +1,11 @@
-use Rattle.std.proofs.Common.{◌≡◌, ◌<◌, ◌≤◌, true, sym, subst, refl, ◌∙◌, arith}
+use Rattle.std.proofs.Common.{◌≡◌, ◌+◌, ◌<◌, ◌≤◌, true, sym, subst, refl, ◌∙◌, arith}
 use Rattle.hcc_rule.specs.Callers.{plan_of, slots_of}
 use Rattle.hcc_rule.specs.Rule.{setup_of}
 use Rattle.hcc_rule.specs.Seats.{SeatOf, view}
 use Rattle.hcc_table.specs.Seeking.{GoesOnBy, is_booking}
 use Rattle.hcc_table.proofs.Still.{settled_books}
 use Rattle.hcc_charge.specs.Reserved.{still_needed}
+use Rattle.hcc_charge.specs.Evicted.{turn_room}
 use Rattle.hcc_charge.specs.Asked.{lacked, EvictsAsAsked, EvictsNothing, Grants}
 use Rattle.hcc_charge.proofs.Answered.{strict_full, strict_reserved, strict_short}
 use Rattle.hcc_charge.proofs.Askings.{asked_strict, between_is, evicts_as_asked, keeps_by, lacked_strict}
@@ -16,7 +17,9 @@ pub returns-then-swept-needed-clause-view : goal.returns-then-swept-needed-claus
 returns-then-swept-needed-clause-view g c =
     let table = c.args.table.now in
     let told = c.evict_for-swept.ensures in
-    strict_short (setup_of (plan_of table)) table.geometry.slots table.capacity c.args.charge
+    strict_short (turn_room (g.L.FreedList.shelf c.args.list.now))
+    (turn_room (g.L.FreedList.shelf c.evict_for-swept.new.list))
+    (setup_of (plan_of table)) table.geometry.slots table.capacity c.args.charge
     c.charge-used.result c.enter-full.result c.evict_for-swept.result (view c.args.seat.now)
     c.requires.idle c.enter-full.ensures.view told.view (table.planned.2 ∙ c.requires.strict)
     table.planned.1 c.charge-used.ensures.view
@@ -29,7 +32,9 @@ pub returns-then-swept-eq0-clause-view : goal.returns-then-swept-eq0-clause-view
 returns-then-swept-eq0-clause-view g c =
     let table = c.args.table.now in
     let told = c.evict_for-swept.ensures in
-    strict_full (setup_of (plan_of table)) table.geometry.slots table.capacity c.args.charge
+    strict_full (turn_room (g.L.FreedList.shelf c.args.list.now))
+    (turn_room (g.L.FreedList.shelf c.evict_for-swept.new.list))
+    (setup_of (plan_of table)) table.geometry.slots table.capacity c.args.charge
     c.charge-used.result c.enter-full.result c.evict_for-swept.result (view c.args.seat.now)
     c.requires.idle c.enter-full.ensures.view told.view (table.planned.2 ∙ c.requires.strict)
     table.planned.1 c.charge-used.ensures.view
@@ -64,7 +69,9 @@ pub returns-clause-view : goal.returns-clause-view
 returns-clause-view g c =
     let table = c.args.table.now in
     let told = c.evict_for-swept.ensures in
-    strict_reserved (setup_of (plan_of table)) table.geometry.slots table.capacity c.args.charge
+    strict_reserved (turn_room (g.L.FreedList.shelf c.args.list.now))
+    (turn_room (g.L.FreedList.shelf c.evict_for-swept.new.list))
+    (setup_of (plan_of table)) table.geometry.slots table.capacity c.args.charge
     c.charge-used.result c.enter-full.result c.evict_for-swept.result (view c.args.seat.now)
     c.requires.idle c.enter-full.ensures.view told.view (table.planned.2 ∙ c.requires.strict)
     table.planned.1 c.charge-used.ensures.view
@@ -76,7 +83,10 @@ returns-clause-view g c =
 abbrev evicted : (g : given.Over) (c : After-evict_for-swept g) (d : SeatOf g.row.T.Denot)
     → EvictsNothing (view c.evict_for-swept.new.seat) (view d)
     → GoesOnBy c.args.table.now is_booking c.evict_for-swept.new.seat d
-    → EvictsAsAsked g.T.Tag.fits c.args.table.now c.args.charge c.args.tally.now
+    → EvictsAsAsked g.T.Tag.fits c.args.table.now c.args.charge
+    (turn_room (g.L.FreedList.shelf c.args.list.now))
+    (turn_room (g.L.FreedList.shelf c.evict_for-swept.new.list))
+    c.args.tally.now
     c.evict_for-swept.new.tally c.args.effort.now c.evict_for-swept.new.effort c.args.seat.now d
 evicted g c =
     let told = c.evict_for-swept.ensures in
@@ -142,7 +152,7 @@ returns-clause-steps g c =
     (keeps_by _ _ (view c.evict_for-swept.new.seat) c.settle.ensures.view refl refl refl refl)
     (settled_books c.args.table.now c.evict_for-swept.new.seat c.settle.new.seat
     c.settle.ensures.by) in
-    rw (between_is (slots_of c.args.table.now) c.evict_for-swept.result.turns
+    rw (between_is (slots_of c.args.table.now + g.L.FreedList.loads) c.evict_for-swept.result.turns
     c.evict_for-swept.result.slots (view c.args.seat.now) (view c.settle.new.seat)
     e.turns e.takings)
     (omega arith)

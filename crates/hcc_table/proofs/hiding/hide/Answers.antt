@@ -1,6 +1,9 @@
-use Rattle.std.proofs.Common.{◌≡◌, ℕ, ◌+◌, ◌*◌, ◌<◌, ◌≤◌, refl, ap, ◌∙◌, arith}
+use Rattle.std.proofs.Common.{◌≡◌, ℕ, ◌+◌, ◌*◌, ◌<◌, ◌≤◌, map, refl, ap, ◌∙◌, arith}
 use Rattle.std.proofs.Math.Nat.{mul-le-mul_left}
+use Rattle.hcc_rule.specs.declared.view.View.{View}
 use Rattle.hcc_table.specs.Efforts.{Took}
+use Rattle.hcc_table.specs.Lists.{as_freed, has_room}
+use Rattle.hcc_table.proofs.Handed.{hands_alike, hands_more, hands_none, room_before}
 use Rattle.hcc_table.proofs.Rises.{took_none, took_next, took_within}
 use Rattle.hcc_rule.proofs.Probes.ProbeLaws.{some_slots}
 use Rattle.hcc_table.proofs.HideSteps.{hid_none, hid_then, hides_every, hides_here}
@@ -19,7 +22,9 @@ loop-init g c =
           told.stride (rw (← c.geometry-slots.ensures) told.mask) refl,
       took_none c.args.effort.now,
       omega arith,
-      hid_none g.T.Tag.fits table c.args.key c.args.name c.args.effort.now c.args.seat.now,
+      hid_none g.T.Tag.fits table c.args.key c.args.name
+          (has_room 1 (g.L.FreedList.shelf c.args.list.now)) c.args.effort.now c.args.seat.now,
+      hands_none (g.L.FreedList.shelf c.args.list.now) refl,
     )
 
 pub returns-then-count_at-eq0-clause-view : goal.returns-then-count_at-eq0-clause-view
@@ -63,18 +68,25 @@ loop-preserved g c =
       visited,
       (let so_far = c.loop.invariant.2 in let hid = c.hide_at-here.ensures.steps in
           let one = told.step.one in
-          let both = sum_of (c.args.table.now.geometry.slots + 4) c.loop.all.slots
+          let both = sum_of (c.args.table.now.geometry.slots + 4 + g.L.FreedList.loads)
+          c.loop.all.slots
           c.hide_at-here.result.slots c.with-all.result.slots all.slots in
           omega arith),
       hid_then g.T.Tag.fits c.args.table.now c.args.key c.args.name c.loop.counter
-          c.slot-slot.result here.does.0 c.count_at.result here.does.1 c.loop.all
+          c.slot-slot.result here.does.0 c.count_at.result
+          (has_room 1 (g.L.FreedList.shelf c.loop.list))
+          (has_room 1 (g.L.FreedList.shelf c.hide_at-here.new.list)) here.does.1 c.loop.all
           c.hide_at-here.result c.with-all.result c.args.effort.now c.probes.new.self
           c.loop.effort c.args.seat.now
           c.loop.seat c.hide_at-here.new.seat c.count_at.new.seat c.loop.invariant.3
+          (room_before 1 (map as_freed here.list.these) (g.L.FreedList.shelf c.loop.list)
+          (g.L.FreedList.shelf c.hide_at-here.new.list) here.list.puts)
           (c.slot-slot.ensures ∙ c.loop.invariant.0.walking.probe) c.hide_at-here.new.effort
           (c.probes.ensures.probes, c.probes.ensures.corrections, c.probes.ensures.lost)
           here.does.2 (all.hidden, all.slots, all.charge) told.step told.event told.view
           here.view.erases.dead here.does.3 c.if-count_at-eq0.false,
+      hands_more c.loop.invariant.4 (hands_alike here.list refl
+          (ap (λ (v : View g.row.T.Denot). v.gone) told.view)),
     )
   where
     visited : Took (c.loop.counter + 1) (c.loop.counter + 1) (2 * (c.loop.counter + 1))
@@ -121,9 +133,12 @@ returns-then-count_at-eq0-clause-hides g c =
     let all = c.with-all.ensures in
     let told = c.count_at.ensures in
     hides_here g.T.Tag.fits c.args.table.now c.args.key c.args.name c.loop.counter
-    c.slot-slot.result here.does.0 c.count_at.result here.does.1 c.loop.all c.hide_at-here.result
-    c.with-all.result c.args.effort.now c.probes.new.self c.loop.effort c.args.seat.now
-    c.loop.seat c.hide_at-here.new.seat c.count_at.new.seat c.loop.invariant.3
+    c.slot-slot.result here.does.0 c.count_at.result (has_room 1 (g.L.FreedList.shelf c.loop.list))
+    (has_room 1 (g.L.FreedList.shelf c.hide_at-here.new.list)) here.does.1 c.loop.all
+    c.hide_at-here.result c.with-all.result c.args.effort.now c.probes.new.self c.loop.effort
+    c.args.seat.now c.loop.seat c.hide_at-here.new.seat c.count_at.new.seat c.loop.invariant.3
+    (room_before 1 (map as_freed here.list.these) (g.L.FreedList.shelf c.loop.list)
+    (g.L.FreedList.shelf c.hide_at-here.new.list) here.list.puts)
     (c.slot-slot.ensures ∙ c.loop.invariant.0.walking.probe) c.hide_at-here.new.effort
     (c.probes.ensures.probes, c.probes.ensures.corrections, c.probes.ensures.lost)
     here.does.2 (all.hidden, all.slots, all.charge) told.step told.event told.view
@@ -136,7 +151,8 @@ returns-clause-hides g c =
     let past : slots ≤ c.loop.counter = rw (← size) c.loop-test.false in
     let most : c.loop.counter ≤ slots = rw (← size) c.loop.auto.counter-end in
     let some : 0 < slots = some_slots slots c.args.table.now.limits.power in
-    hides_every g.T.Tag.fits c.args.table.now c.args.key c.args.name c.loop.counter c.loop.all
+    hides_every g.T.Tag.fits c.args.table.now c.args.key c.args.name c.loop.counter
+    (has_room 1 (g.L.FreedList.shelf c.loop.list)) c.loop.all
     c.args.effort.now c.loop.effort c.args.seat.now c.loop.seat c.loop.invariant.3 (omega arith)
     (omega arith)
 
@@ -149,7 +165,7 @@ returns-then-count_at-eq0-clause-frees g c =
     let so_far = c.loop.invariant.2 in
     let hid = c.hide_at-here.ensures.steps in
     let one = c.count_at.ensures.step.one in
-    let both = sum_of (slots + 4) c.loop.all.slots c.hide_at-here.result.slots
+    let both = sum_of (slots + 4 + g.L.FreedList.loads) c.loop.all.slots c.hide_at-here.result.slots
     c.with-all.result.slots c.with-all.ensures.slots in
     record {
       visited = c.loop.counter + 1;
@@ -182,12 +198,12 @@ returns-then-count_at-eq0-clause-steps g c =
     let so_far = c.loop.invariant.2 in
     let hid = c.hide_at-here.ensures.steps in
     let one = c.count_at.ensures.step.one in
-    let both = sum_of (slots + 4) c.loop.all.slots c.hide_at-here.result.slots
+    let both = sum_of (slots + 4 + g.L.FreedList.loads) c.loop.all.slots c.hide_at-here.result.slots
     c.with-all.result.slots c.with-all.ensures.slots in
     let few : c.with-all.result.slots ≤ c.loop.counter + 1 =
     (let old = c.loop.invariant.0.fewer in let here = c.hide_at-here.ensures.few.1 in
     let all = c.with-all.ensures.slots in omega arith) in
-    let most = mul-le-mul_left (slots + 4) few in
+    let most = mul-le-mul_left (slots + 4 + g.L.FreedList.loads) few in
     record {
       visited = c.loop.counter + 1;
       within = omega arith;
@@ -204,10 +220,15 @@ returns-clause-steps g c =
     let slots = c.args.table.now.geometry.slots in
     let within : c.loop.counter ≤ slots = rw (← size) c.loop.auto.counter-end in
     let so_far = c.loop.invariant.2 in
-    let most = mul-le-mul_left (slots + 4) c.loop.invariant.0.fewer in
+    let most = mul-le-mul_left (slots + 4 + g.L.FreedList.loads) c.loop.invariant.0.fewer in
     record {
       visited = c.loop.counter;
       within = within;
       counted = c.loop.invariant.1.0;
       steps = omega arith;
     }
+
+pub returns-then-count_at-eq0-clause-list : goal.returns-then-count_at-eq0-clause-list
+returns-then-count_at-eq0-clause-list g c =
+    hands_more c.loop.invariant.4 (hands_alike c.hide_at-here.ensures.list refl
+    (ap (λ (v : View g.row.T.Denot). v.gone) c.count_at.ensures.view))

@@ -1,5 +1,7 @@
-use Rattle.std.proofs.Common.{None, inl, inr, refl}
+use Rattle.std.proofs.Common.{None, inl, inr, refl, ap}
 use Rattle.hcc_table.proofs.Erasures.{erased_none, erased_there, buried_there}
+use Rattle.hcc_rule.specs.declared.view.View.{View}
+use Rattle.hcc_table.proofs.Handed.{hands_none}
 use Rattle.hcc_rule.specs.Seats.{view}
 use Rattle.hcc_rule.specs.Records.{record_in}
 use Rattle.hcc_table.proofs.Probes.{found_asked, found_holds, stamp_dead, stamp_in, stamp_is}
@@ -56,3 +58,8 @@ pub returns-in-None-clause-view : goal.returns-in-None-clause-view
 returns-in-None-clause-view g c =
     erased_none c.args.key (view c.args.seat.now) (view c.acquire_at.new.seat) c.requires.idle
     c.in-None.ensures.missed.0
+
+pub returns-in-None-clause-list : goal.returns-in-None-clause-list
+returns-in-None-clause-list g c =
+    hands_none (g.L.FreedList.shelf c.args.list.now)
+    (ap (λ (v : View g.row.T.Denot). v.gone) c.in-None.ensures.missed.0.searched.same)

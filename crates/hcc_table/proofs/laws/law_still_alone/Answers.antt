@@ -15,9 +15,9 @@ returns-clause-searches g c table key name marks answer before after old new one
     (searches_seek g.T.Tag.fits table key name marks answer before after old new searches)
 
 pub returns-clause-releases : goal.returns-clause-releases
-returns-clause-releases g c table slot name used erase freed old new one releases =
-    releases_show table one slot name used erase freed old new releases
+returns-clause-releases g c table slot name room used erase freed old new one releases =
+    releases_show table one slot name room used erase freed old new releases
 
 pub returns-clause-unerased : goal.returns-clause-unerased
-returns-clause-unerased g c table slot name charge used old new one releases =
-    unerased_hidden table one slot name charge used old new releases
+returns-clause-unerased g c table slot name charge room used old new one releases =
+    unerased_hidden table one slot name charge room used old new releases

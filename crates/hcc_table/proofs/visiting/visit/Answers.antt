@@ -1,4 +1,5 @@
-use Rattle.std.proofs.Common.{ℕ, rules}
+use Rattle.std.proofs.Common.{ℕ, ap, ◌∙◌, rules}
+use Rattle.hcc_rule.specs.declared.view.View.{View}
 use Rattle.hcc_rule.specs.Callers.{room_of, slots_of}
 use Rattle.hcc_rule.specs.Addresses.{address_of_meta}
 use Rattle.hcc_rule.specs.Seats.{atomic, view}
@@ -8,6 +9,7 @@ use Rattle.hcc_table.specs.Searched.{Sought}
 use Rattle.hcc_table.specs.Visited.{Swept, Visited}
 use Rattle.hcc_word.specs.declared.layout.TheConstants.{CONSTRUCTION_WORD}
 use Rattle.hcc_table.proofs.Gives.{freed_after}
+use Rattle.hcc_table.proofs.Handed.{counted_none, hands_none}
 use Rattle.hcc_table.proofs.Logs.{begins_with_two, makes_two}
 use Rattle.hcc_table.proofs.Probes.{looked_at}
 use Rattle.hcc_table.proofs.Searches.{sought_then}
@@ -62,7 +64,10 @@ returns-in-None-clause-visit g c = by c.sweep.result c.sweep.ensures.visit
           swept.0,
       swept.1,
       freed_after g.T.Tag.fits room (view c.args.seat.now) (view c.look_at-word.new.seat)
-          (view c.sweep.new.seat) looked.searched (cc) (cc) word charge swept.2,
+          (view c.sweep.new.seat) looked.searched
+          (ap (λ (v : View g.row.T.Denot). v.met) c.look_at-word.ensures.view)
+          (ap (λ (v : View g.row.T.Denot). v.glimpse) c.look_at-word.ensures.view) word charge
+          swept.2,
       search rules,
       search rules,
       search rules,
@@ -70,3 +75,15 @@ returns-in-None-clause-visit g c = by c.sweep.result c.sweep.ensures.visit
       search rules,
       search rules,
     )
+
+pub returns-in-Some-clause-list : goal.returns-in-Some-clause-list
+returns-in-Some-clause-list g c =
+    hands_none (g.L.FreedList.shelf c.args.list.now)
+    (counted_none (address_of_meta c.args.table.now c.args.slot) c.look_at-word.result
+    c.count_down.result c.look_at-word.new.seat c.count_down.new.seat c.count_down.ensures.visit
+    ∙ ap (λ (v : View g.row.T.Denot). v.gone) c.look_at-word.ensures.view)
+
+pub returns-then-refs-ne0-clause-list : goal.returns-then-refs-ne0-clause-list
+returns-then-refs-ne0-clause-list g c =
+    hands_none (g.L.FreedList.shelf c.args.list.now)
+    (ap (λ (v : View g.row.T.Denot). v.gone) c.look_at-word.ensures.view)

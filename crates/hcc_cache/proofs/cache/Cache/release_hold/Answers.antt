@@ -1,4 +1,4 @@
-use Rattle.std.proofs.Common.{◌≡◌, ◌&&◌, ap, sym, subst, ◌∙◌}
+use Rattle.std.proofs.Common.{◌≡◌, ◌&&◌, true, ap, sym, subst, ◌∙◌}
 use Rattle.std.proofs.lemmas.Option.{same_Some}
 use Rattle.hcc_cache.specs.declared.holding.Hold.{Hold}
 use Rattle.hcc_cache.specs.Calls.{CountsOf}
@@ -21,11 +21,11 @@ returns-in-Ok-clause-by g c = λ hold slot counting at kept.
     sym c.in-Ok.ensures.pinned.kept ∙ sym (ap (λ (h : Hold). h.kept) same) ∙ kept in
     let there : c.in-Ok.pin.slot ≡ slot = cc in
     let counts : c.in-Ok.pin.counting ≡ counting = cc in
-    subst (λ (h : Hold). ReleasesPin c.args.self.now h slot (c.args.useful && counting)
+    subst (λ (h : Hold). ReleasesPin c.args.self.now h slot true (c.args.useful && counting)
     c.args.erase_if_last c.release_pin.result c.args.client.now c.release_pin.new.client) (sym same)
-    (subst (λ n. ReleasesPin c.args.self.now c.args.hold n (c.args.useful && counting)
+    (subst (λ n. ReleasesPin c.args.self.now c.args.hold n true (c.args.useful && counting)
     c.args.erase_if_last c.release_pin.result c.args.client.now c.release_pin.new.client) there
-    (subst (λ b. ReleasesPin c.args.self.now c.args.hold c.in-Ok.pin.slot (c.args.useful && b)
+    (subst (λ b. ReleasesPin c.args.self.now c.args.hold c.in-Ok.pin.slot true (c.args.useful && b)
     c.args.erase_if_last c.release_pin.result c.args.client.now c.release_pin.new.client) counts
     c.release_pin.ensures.by))
 

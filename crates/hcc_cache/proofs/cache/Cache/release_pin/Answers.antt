@@ -1,8 +1,10 @@
 use Rattle.std.proofs.Common.{◌≡◌, ◌∙◌, ◌+◌, ◌&&◌, get_or, slice_set, ap, refl, sym, arith}
 use Rattle.std.specs.Vec.{with_item}
 use Rattle.hcc_rule.specs.declared.geometry.Geometry.{Geometry}
+use Rattle.hcc_table.specs.Lists.{Hands, has_room}
 use Rattle.hcc_table.specs.Pins.{erases, is_useful}
 use Rattle.hcc_table.specs.Steps.{freeing}
+use Rattle.hcc_shard.specs.Callers.{view_of}
 use Rattle.hcc_shard.specs.Counted.{SameEvictions}
 use Rattle.hcc_cache.specs.declared.client.Client.{Client}
 use Rattle.hcc_cache.proofs.Handles.OneMoreOnPinned.{at_hold, held_within, kept_there, pin_at, pinned_at}
@@ -90,6 +92,7 @@ returns g c =
       | else-useful w ↦ ap is_useful w.as_use-is ∙ sym w.if-useful.false
     ] in
     let released : ReleasesAt shard c.args.pin.slot hold.serial
+    (has_room 1 (g.L.FreedList.shelf c.args.list.now))
     (c.args.useful && c.args.pin.counting) c.args.erase_if_last c.release.result was is =
     rw (← c.requires.pinned.name, ← useful, ← asked) c.release.ensures.by in
     record {
@@ -101,6 +104,10 @@ returns g c =
           releases_unpinned cache old new c.args.handle hold lets
           c.requires.pinned shard was is at change alone c.args.erase_if_last
           c.release.result given;
+      list = did_at cache old new hold.shard shard was is at change
+          (λ z a b. Hands (g.L.FreedList.shelf c.args.list.now)
+          (g.L.FreedList.shelf c.release.new.list) (view_of a) (view_of b)) c.release.ensures.list
+          hold.shard refl;
       gives = record {
         there = shard;
         was = was;
@@ -113,6 +120,7 @@ returns g c =
       by = (
         did_at cache old new hold.shard shard was is at change
             (λ z a b. ReleasesAt z c.args.pin.slot hold.serial
+            (has_room 1 (g.L.FreedList.shelf c.args.list.now))
             (c.args.useful && c.args.pin.counting) c.args.erase_if_last c.release.result a b)
             released hold.shard refl,
         only_at cache old new hold.shard shard was is at change hold.shard refl,
@@ -120,12 +128,14 @@ returns g c =
       stays = λ none.
           stays_at cache old new hold.shard shard was is at change
           (release_stays shard c.args.pin.slot hold.serial
+          (has_room 1 (g.L.FreedList.shelf c.args.list.now))
           (c.args.useful && c.args.pin.counting) c.args.erase_if_last c.release.result was is
           released none);
       counts =
           does_at cache old new hold.shard shard was is at change SameEvictions
           c.release.ensures.counts hold.shard refl;
+      rest = ap (λ (x : Client g.row.T.Denot). record x { seats = new.seats }) rest;
       steps =
           takes_at cache old new hold.shard shard was is at change
-          (freeing cache.geometry.slots + 3) (omega arith);
+          (freeing cache.geometry.slots + g.L.FreedList.loads + 3) (omega arith);
     }

@@ -1,12 +1,14 @@
 use Rattle.std.proofs.Common.{◌≡◌, ◌∙◌, ◌-◌, None, length, get_or, slice_set, ap, refl, sym, arith}
 use Rattle.hcc_rule.specs.declared.steps.shows.Draft.{Draft}
+use Rattle.hcc_table.specs.Lists.{Hands}
+use Rattle.hcc_charge.specs.Evicted.{turn_room}
 use Rattle.hcc_shard.specs.Callers.{view_of}
 use Rattle.hcc_shard.specs.Inserted.{InsertedBy}
 use Rattle.hcc_cache.specs.declared.client.Client.{Client}
 use Rattle.hcc_cache.specs.Calls.{capacities_of, shard_in}
 use Rattle.hcc_cache.specs.Inserts.{draft_of}
 use Rattle.hcc_cache.specs.Sharding.{shard_of}
-use Rattle.hcc_cache.proofs.Clients.AtOneShard.{ChangesAt, is_at, only_at, seated_at}
+use Rattle.hcc_cache.proofs.Clients.AtOneShard.{ChangesAt, did_at, is_at, only_at, seated_at}
 use Rattle.hcc_cache.proofs.Insertions.KnownAfterInsertion.{IsAsked, frees_at, insertable_at, inserts_at, knows_asked, leaves_stored, stores_at, stores_did, told_as}
 use Rattle.hcc_cache.proofs.Insertions.AnswersTold.{answers_small, answers_unspent, inserts_did, inserts_told}
 use Rattle.hcc_cache.proofs.Clients.ShownAfterwards.{alone_at, knows_shown, was_placed}
@@ -75,8 +77,11 @@ returns g c =
       countdown = c.countdown.ensures.exact j;
       name = None;
     } in
+    let had = turn_room (g.L.FreedList.shelf c.args.list.now) in
+    let has = turn_room (g.L.FreedList.shelf c.insert.new.list) in
     let told = told_as cache old old i shard was is at
-    (λ s b p d. InsertedBy s b p d c.args.value.now answer (view_of was) (view_of is)) draft
+    (λ s b p d. InsertedBy had has s b p d c.args.value.now answer (view_of was) (view_of is))
+    draft
     asked same c.insert.ensures.view in
     let change : ChangesAt old _ i is = record {
       seats = ap (λ (x : Client g.row.T.Denot). slice_set x.seats.items i is) rest;
@@ -94,9 +99,9 @@ returns g c =
       held = ap (λ (x : Client g.row.T.Denot). x.held) rest;
       uses = (ap (λ (x : Client g.row.T.Denot). x.used) rest, omega arith);
     } in
-    let left = leaves_stored cache.geometry.slots cache.capacity cache.strict asked
+    let left = leaves_stored had has cache.geometry.slots cache.capacity cache.strict asked
     c.args.value.now (view_of was) (view_of is) answer refl told in
-    let small = answers_small cache.geometry.slots cache.capacity cache.strict asked
+    let small = answers_small had has cache.geometry.slots cache.capacity cache.strict asked
     c.args.value.now (view_of was) (view_of is) answer told c.requires.small in
     record {
       known =
@@ -105,15 +110,15 @@ returns g c =
       inserted =
           rw c.answered.ensures
           (inserts_told cache c.args.key c.args.charge c.args.priority c.args.value.now old _
-          answer small
+          had has answer small
           (stores_at cache old _ i shard was is at change c.insert.ensures.seat left changed
-          c.args.key c.args.charge c.args.priority c.args.value.now here answer told));
+          c.args.key c.args.charge c.args.priority c.args.value.now here had has answer told));
       evicts =
           rw c.answered.ensures
           (inserts_did cache c.args.key c.args.charge c.args.priority c.args.value.now old _
-          g.T.Tag.fits answer small
+          g.T.Tag.fits had has answer small
           (stores_did cache old _ i shard was is at change g.T.Tag.fits c.args.key c.args.charge
-          c.args.priority here draft same answer c.insert.ensures.evicts));
+          c.args.priority here had has draft same answer c.insert.ensures.evicts));
       shown = λ one placed.
           let shown = c.insert.ensures.shown
           (alone_at cache old _ i shard was is at change one)
@@ -122,9 +127,15 @@ returns g c =
           c.key_to-seeded.result.in_shard shown.0 here words shown.1;
       no_spent = rw c.answered.ensures (answers_unspent answer);
       no_large = rw c.answered.ensures small;
+      list = did_at cache old _ i shard was is at change
+          (λ z a b. Hands (g.L.FreedList.shelf c.args.list.now)
+          (g.L.FreedList.shelf c.insert.new.list) (view_of a) (view_of b)) c.insert.ensures.list
+          (shard_in cache c.args.key) here;
       others = only_at cache old _ i shard was is at change (shard_in cache c.args.key) here;
       frees =
-          frees_at cache old _ i shard was is at change (shard_in cache c.args.key) here
+          frees_at cache old _ i shard was is at change g.L.FreedList.loads (shard_in cache
+          c.args.key) here
           c.insert.ensures.frees;
-      steps = inserts_at cache old _ i shard was is at change c.insert.ensures.steps;
+      steps = inserts_at cache old _ i shard was is at change g.L.FreedList.loads
+          c.insert.ensures.steps;
     }

@@ -1,6 +1,8 @@
 use Rattle.std.proofs.Common.{◌≡◌, ◌∙◌, ◌-◌, Some, Ok, Err, length, ap, refl, arith}
 use Rattle.hcc_rule.specs.declared.steps.shows.Draft.{Draft}
 use Rattle.hcc_shard.specs.declared.inserting.Pinned.TheVariants.{Placed, Standalone}
+use Rattle.hcc_table.specs.Lists.{Hands}
+use Rattle.hcc_charge.specs.Evicted.{turn_room}
 use Rattle.hcc_shard.specs.Callers.{view_of}
 use Rattle.hcc_shard.specs.Inserted.{RefusedBy, with_draft}
 use Rattle.hcc_cache.specs.declared.client.Client.{Client}
@@ -10,7 +12,7 @@ use Rattle.hcc_cache.specs.Calls.{capacities_of, shard_in}
 use Rattle.hcc_cache.specs.Inserts.{pinned_draft}
 use Rattle.hcc_cache.specs.Sharding.{shard_of}
 use Rattle.hcc_cache.proofs.Insertions.StandaloneEntry.{IsJoined}
-use Rattle.hcc_cache.proofs.Clients.AtOneShard.{ChangesAt, few_at, is_at, only_at, seated_at}
+use Rattle.hcc_cache.proofs.Clients.AtOneShard.{ChangesAt, did_at, few_at, is_at, only_at, seated_at}
 use Rattle.hcc_cache.proofs.Handles.OneMore.{IsGiven}
 use Rattle.hcc_cache.proofs.Insertions.HandleOnInserted.{few_alone, has_room, hold_with, knows_alone, knows_pins, pinned_told, pins_at, stands_at}
 use Rattle.hcc_cache.proofs.Insertions.KnownAfterInsertion.{IsAsked, fails_at, frees_at, insertable_at, inserts_at, knows_asked, leaves_refused, leaves_unshown, pins_did, told_as}
@@ -38,9 +40,9 @@ insert_pinned-requires-clause-may g c =
     let was = c.index_mut-seat.result.now in
     let at = is_at cache old i shard was c.requires.known c.shard_number-shard.ensures.inside
     c.index.ensures c.index_mut-seat.ensures.value in
-    let read = c.deref-bytes.ensures.value in
+    let read = c.as_bytes-bytes.ensures in
     insertable_at cache old old i shard was was at g.T.Tag.fits c.args.key
-    c.deref-bytes.result.now _ (rw read c.requires.fits) (rw read c.requires.short)
+    c.as_bytes-bytes.result.now _ (rw read c.requires.fits) (rw read c.requires.short)
     (λ k inside. omega (arith, c.type_inv.bytes k))
     (c.requires.paid, c.ranges.charge.fits) c.countdown.ensures.within refl
     c.key_to-seeded.ensures.undone c.requires.free.1
@@ -84,7 +86,7 @@ returns-in-Ok-Placed g c =
     let words = c.key_to-seeded.ensures.words in
     let shards = length cache.shards.items in
     let here = c.shard_number-shard.ensures.value ∙ ap (λ k. shard_of k shards) words in
-    let value = c.args.value.items in
+    let value = g.V.Standing.bytes c.args.value in
     let asked = pinned_draft cache c.args.key c.args.charge c.args.priority value old in
     let draft : Draft = record {
       key = c.key_to-seeded.result.in_shard;
@@ -101,8 +103,10 @@ returns-in-Ok-Placed g c =
       name = Some old.used;
     } in
     let pin = c.in-Ok-Placed.pin in
-    let told = pinned_told cache old old i shard was is at draft asked same
-    c.deref-bytes.result.now value c.deref-bytes.ensures.value c.in-Ok-Placed.field-0
+    let had = turn_room (g.L.FreedList.shelf c.args.list.now) in
+    let has = turn_room (g.L.FreedList.shelf c.insert_pinned.new.list) in
+    let told = pinned_told cache old old i shard was is at had has draft asked same
+    c.as_bytes-bytes.result.now value c.as_bytes-bytes.ensures c.in-Ok-Placed.field-0
     (Placed pin) c.in-Ok-Placed.field-0-is c.in-Ok-Placed.ensures.view in
     let new = c.keep-handle.new.self in
     let rest = c.keep-handle.ensures.rest in
@@ -133,18 +137,18 @@ returns-in-Ok-Placed g c =
       known =
           knows_pins cache old new i shard was is at change c.insert_pinned.ensures.seat
           c.keep-handle.result c.args.key c.pinned.result given c.requires.free.0 c.args.charge
-          c.args.priority value here pin undone alone c.pinned.ensures told
+          c.args.priority value here had has pin undone alone c.pinned.ensures told
           c.ranges.charge.fits;
       back = tt;
       late = tt;
       inserted =
           pins_at cache old new i shard was is at change c.insert_pinned.ensures.seat
           c.keep-handle.result c.args.key c.pinned.result given c.requires.free.0 c.args.charge
-          c.args.priority value here pin undone alone c.pinned.ensures told;
+          c.args.priority value here had has pin undone alone c.pinned.ensures told;
       evicts = (
         pin,
         pins_did cache old new i shard was is at change g.T.Tag.fits c.args.key c.args.charge
-            c.args.priority here draft same (Ok c.in-Ok-Placed.field-0) (Ok (Placed pin))
+            c.args.priority here had has draft same (Ok c.in-Ok-Placed.field-0) (Ok (Placed pin))
             (ap Ok c.in-Ok-Placed.field-0-is) c.in-Ok-Placed.ensures.evicts,
       );
       shown = λ one placed.
@@ -152,11 +156,17 @@ returns-in-Ok-Placed g c =
           c.key_to-seeded.result.in_shard pin.slot here words
           (c.in-Ok-Placed.ensures.shown (alone_at cache old new i shard was is at change one) pin
           (ap Ok c.in-Ok-Placed.field-0-is));
+      list = did_at cache old new i shard was is at change
+          (λ z a b. Hands (g.L.FreedList.shelf c.args.list.now)
+          (g.L.FreedList.shelf c.insert_pinned.new.list) (view_of a) (view_of b))
+          c.insert_pinned.ensures.list (shard_in cache c.args.key) here;
       others = only_at cache old new i shard was is at change (shard_in cache c.args.key) here;
       frees =
-          frees_at cache old new i shard was is at change (shard_in cache c.args.key) here
+          frees_at cache old new i shard was is at change g.L.FreedList.loads (shard_in cache
+          c.args.key) here
           c.insert_pinned.ensures.frees;
-      steps = inserts_at cache old new i shard was is at change c.insert_pinned.ensures.steps;
+      steps = inserts_at cache old new i shard was is at change g.L.FreedList.loads
+          c.insert_pinned.ensures.steps;
     }
 
 pub returns-in-Ok-Standalone : goal.returns-in-Ok-Standalone
@@ -172,7 +182,7 @@ returns-in-Ok-Standalone g c =
     let words = c.key_to-seeded.ensures.words in
     let shards = length cache.shards.items in
     let here = c.shard_number-shard.ensures.value ∙ ap (λ k. shard_of k shards) words in
-    let value = c.args.value.items in
+    let value = g.V.Standing.bytes c.args.value in
     let asked = pinned_draft cache c.args.key c.args.charge c.args.priority value old in
     let draft : Draft = record {
       key = c.key_to-seeded.result.in_shard;
@@ -188,8 +198,10 @@ returns-in-Ok-Standalone g c =
       countdown = c.countdown.ensures.exact j;
       name = Some old.used;
     } in
-    let told = pinned_told cache old old i shard was is at draft asked same
-    c.deref-bytes.result.now value c.deref-bytes.ensures.value c.in-Ok-Standalone.field-0
+    let had = turn_room (g.L.FreedList.shelf c.args.list.now) in
+    let has = turn_room (g.L.FreedList.shelf c.insert_pinned.new.list) in
+    let told = pinned_told cache old old i shard was is at had has draft asked same
+    c.as_bytes-bytes.result.now value c.as_bytes-bytes.ensures c.in-Ok-Standalone.field-0
     Standalone c.in-Ok-Standalone.field-0-is c.in-Ok-Standalone.ensures.view in
     let new = c.keep_alone-handle.new.self in
     let rest = c.keep_alone-handle.ensures.rest in
@@ -207,7 +219,7 @@ returns-in-Ok-Standalone g c =
       name = old.used;
       charge = c.args.charge;
       references = 1;
-      value = c.args.value;
+      value = c.into_value.result;
     } in
     let given : IsGiven old new c.keep_alone-handle.result
     (hold_with old.used c.args.key i (Standing kept.0)) = record {
@@ -221,7 +233,7 @@ returns-in-Ok-Standalone g c =
       held = ap (λ (x : Client g.row.T.Denot). x.held) rest;
       uses = (ap (λ (x : Client g.row.T.Denot). x.used) rest, omega arith);
     } in
-    let left = leaves_unshown cache.geometry.slots cache.capacity cache.strict asked value
+    let left = leaves_unshown had has cache.geometry.slots cache.capacity cache.strict asked value
     (view_of was) (view_of is) (with_draft asked (view_of was).work.standalones) told in
     let joined : IsJoined old.used was is old.alone new.alone kept.0 alone = record {
       records = left.records_are;
@@ -242,18 +254,25 @@ returns-in-Ok-Standalone g c =
       inserted =
           stands_at cache old new i shard was is at change c.insert_pinned.ensures.seat
           c.keep_alone-handle.result c.args.key (Standing kept.0) given c.requires.free.0
-          c.args.charge c.args.priority value here kept.0 alone refl refl refl left.tried joined
+          c.args.charge c.args.priority value here had has kept.0 alone refl refl
+          c.into_value.ensures left.tried joined
           told;
       evicts =
           pins_did cache old new i shard was is at change g.T.Tag.fits c.args.key c.args.charge
-          c.args.priority here draft same (Ok c.in-Ok-Standalone.field-0) (Ok Standalone)
+          c.args.priority here had has draft same (Ok c.in-Ok-Standalone.field-0) (Ok Standalone)
           (ap Ok c.in-Ok-Standalone.field-0-is) c.in-Ok-Standalone.ensures.evicts;
       shown = λ one placed. cc;
+      list = did_at cache old new i shard was is at change
+          (λ z a b. Hands (g.L.FreedList.shelf c.args.list.now)
+          (g.L.FreedList.shelf c.insert_pinned.new.list) (view_of a) (view_of b))
+          c.insert_pinned.ensures.list (shard_in cache c.args.key) here;
       others = only_at cache old new i shard was is at change (shard_in cache c.args.key) here;
       frees =
-          frees_at cache old new i shard was is at change (shard_in cache c.args.key) here
+          frees_at cache old new i shard was is at change g.L.FreedList.loads (shard_in cache
+          c.args.key) here
           c.insert_pinned.ensures.frees;
-      steps = inserts_at cache old new i shard was is at change c.insert_pinned.ensures.steps;
+      steps = inserts_at cache old new i shard was is at change g.L.FreedList.loads
+          c.insert_pinned.ensures.steps;
     }
 
 pub returns-in-Err : goal.returns-in-Err
@@ -269,7 +288,7 @@ returns-in-Err g c =
     let words = c.key_to-seeded.ensures.words in
     let shards = length cache.shards.items in
     let here = c.shard_number-shard.ensures.value ∙ ap (λ k. shard_of k shards) words in
-    let value = c.args.value.items in
+    let value = g.V.Standing.bytes c.args.value in
     let asked = pinned_draft cache c.args.key c.args.charge c.args.priority value old in
     let draft : Draft = record {
       key = c.key_to-seeded.result.in_shard;
@@ -286,8 +305,10 @@ returns-in-Err g c =
       name = Some old.used;
     } in
     let why = c.in-Err.why in
+    let had = turn_room (g.L.FreedList.shelf c.args.list.now) in
+    let has = turn_room (g.L.FreedList.shelf c.insert_pinned.new.list) in
     let told = told_as cache old old i shard was is at
-    (λ s b p d. RefusedBy s b p d why (view_of was) (view_of is)) draft asked same
+    (λ s b p d. RefusedBy had has s b p d why (view_of was) (view_of is)) draft asked same
     c.in-Err.ensures.view in
     let new = c.next_serial.new.self in
     let rest = c.next_serial.ensures.rest in
@@ -306,9 +327,10 @@ returns-in-Err g c =
       held = ap (λ (x : Client g.row.T.Denot). x.held) rest;
       uses = (ap (λ (x : Client g.row.T.Denot). x.used) rest, omega arith);
     } in
-    let left = leaves_refused cache.geometry.slots cache.capacity cache.strict asked value
+    let left = leaves_refused had has cache.geometry.slots cache.capacity cache.strict asked value
     (view_of was) (view_of is) why told in
-    let small = not_large cache.geometry.slots cache.capacity cache.strict asked (view_of was)
+    let small = not_large had has cache.geometry.slots cache.capacity cache.strict asked (view_of
+    was)
     (view_of is) why told c.requires.small in
     record {
       known =
@@ -318,19 +340,28 @@ returns-in-Err g c =
       late = rw c.from.ensures (not_full why, not_spent why, small);
       inserted =
           rw c.from.ensures
-          (refuses_told cache c.args.key c.args.charge c.args.priority value old new why small
+          (refuses_told cache c.args.key c.args.charge c.args.priority value old new had has why
+          small
           (fails_at cache old new i shard was is at change c.insert_pinned.ensures.seat left changed
-          c.args.key c.args.charge c.args.priority value here why told));
+          c.args.key c.args.charge c.args.priority value here had has why told));
       evicts =
           rw c.from.ensures
-          (refuses_did cache c.args.key c.args.charge c.args.priority value old new g.T.Tag.fits why
+          (refuses_did cache c.args.key c.args.charge c.args.priority value old new g.T.Tag.fits had
+          has why
           small
           (pins_did cache old new i shard was is at change g.T.Tag.fits c.args.key c.args.charge
-          c.args.priority here draft same (Err why) (Err why) refl c.in-Err.ensures.evicts));
+          c.args.priority here had has draft same (Err why) (Err why) refl
+          c.in-Err.ensures.evicts));
       shown = λ one. tt;
+      list = did_at cache old new i shard was is at change
+          (λ z a b. Hands (g.L.FreedList.shelf c.args.list.now)
+          (g.L.FreedList.shelf c.insert_pinned.new.list) (view_of a) (view_of b))
+          c.insert_pinned.ensures.list (shard_in cache c.args.key) here;
       others = only_at cache old new i shard was is at change (shard_in cache c.args.key) here;
       frees =
-          frees_at cache old new i shard was is at change (shard_in cache c.args.key) here
+          frees_at cache old new i shard was is at change g.L.FreedList.loads (shard_in cache
+          c.args.key) here
           c.insert_pinned.ensures.frees;
-      steps = inserts_at cache old new i shard was is at change c.insert_pinned.ensures.steps;
+      steps = inserts_at cache old new i shard was is at change g.L.FreedList.loads
+          c.insert_pinned.ensures.steps;
     }

@@ -16,14 +16,14 @@ returns-in_err-reserved-clause-view g c =
     let t = c.args.self.now.table in
     let p = err_from_is_err_and c.from_residual.result c.from_residual.ensures.1 in
     rw (p.1, p.2)
-    (refused_by (slots_of t) (capacity_of t) (is_strict t) c.args.draft
+    (refused_by _ _ (slots_of t) (capacity_of t) (is_strict t) c.args.draft
     c.in_err-reserved.field-0.0 (view c.args.seat.now.seat) (view c.reserve.new.seat)
     c.in_err-reserved.ensures.view)
 
 pub put-requires-clause-may : goal.put-requires-clause-may
 put-requires-clause-may g c =
     let t = c.args.self.now.table in
-    may_insert (slots_of t) (capacity_of t) (is_strict t) c.args.draft g.T.Tag.fits (plan_of t)
+    may_insert _ _ (slots_of t) (capacity_of t) (is_strict t) c.args.draft g.T.Tag.fits (plan_of t)
     (geometry_of t) c.args.value.now c.args.seat.now.client (view c.args.seat.now.seat)
     (view c.reserve.new.seat) c.requires.seat.own c.requires.seat.known c.requires.may
     c.requires.seat.quiet
@@ -38,7 +38,7 @@ returns-in-Some-clause-view g c =
       record {
         within = told.1.low;
         tries =
-            tries_placed (slots_of t) (capacity_of t) (is_strict t) c.args.draft.charge
+            tries_placed _ _ (slots_of t) (capacity_of t) (is_strict t) c.args.draft.charge
             (view c.args.seat.now.seat) (view c.reserve.new.seat)
             (rw c.in-Reserved.is at c.in_ok-reserved.ensures.view).0 _ c.args.draft
             c.args.value.now (view c.put.new.seat.seat) refl told.1.tried;
@@ -48,7 +48,7 @@ returns-in-Some-clause-view g c =
 pub returns-in-None-clause-view : goal.returns-in-None-clause-view
 returns-in-None-clause-view g c =
     let t = c.args.self.now.table in
-    left_dropped (slots_of t) (capacity_of t) (is_strict t) c.args.draft
+    left_dropped _ _ (slots_of t) (capacity_of t) (is_strict t) c.args.draft
     (view c.args.seat.now.seat) (view c.reserve.new.seat) (view c.put.new.seat.seat)
     (rw c.in-Reserved.is at c.in_ok-reserved.ensures.view).0 c.in-None.ensures.view
     (view c.give_up.new.seat) c.give_up.ensures.view
@@ -57,20 +57,22 @@ pub returns-in-NoPlace-clause-view : goal.returns-in-NoPlace-clause-view
 returns-in-NoPlace-clause-view g c =
     let t = c.args.self.now.table in
     let told = rw c.in-NoPlace.is at c.in_ok-reserved.ensures.view in
-    left_none (slots_of t) (capacity_of t) (is_strict t) c.args.draft (view c.args.seat.now.seat)
+    left_none _ _ (slots_of t) (capacity_of t) (is_strict t) c.args.draft (view
+    c.args.seat.now.seat)
     (view c.reserve.new.seat) told.0 told.2
 
 pub returns-in_err-reserved-clause-evicts : goal.returns-in_err-reserved-clause-evicts
 returns-in_err-reserved-clause-evicts g c =
     let p = err_from_is_err_and c.from_residual.result c.from_residual.ensures.1 in
     rw (p.1, p.2)
-    (refuses c.args.self.now c.args.draft g.T.Tag.fits c.in_err-reserved.field-0.0 c.args.seat.now
+    (refuses c.args.self.now c.args.draft g.T.Tag.fits _ _ c.in_err-reserved.field-0.0
+    c.args.seat.now
     _ c.in_err-reserved.ensures.evicts c.in_err-reserved.ensures.effort.0 refl)
 
 pub returns-in_err-reserved-clause-frees : goal.returns-in_err-reserved-clause-frees
 returns-in_err-reserved-clause-frees g c =
     let t = c.args.self.now.table in
-    frees_by (slots_of t) (room_of t) 0 c.args.seat.now.seat c.reserve.new.seat
+    frees_by (slots_of t) (room_of t) g.L.FreedList.loads 0 c.args.seat.now.seat c.reserve.new.seat
     c.reserve.new.seat c.args.seat.now.effort c.reserve.new.effort (omega arith)
     (rose_same _ _ c.in_err-reserved.ensures.effort.0) c.in_err-reserved.ensures.steps
     (omega arith) (record { turns = refl; takings = refl; gone = refl; opened = refl })
@@ -78,20 +80,20 @@ returns-in_err-reserved-clause-frees g c =
 pub returns-in_err-reserved-clause-steps : goal.returns-in_err-reserved-clause-steps
 returns-in_err-reserved-clause-steps g c =
     let t = c.args.self.now.table in
-    few_by (slots_of t) (room_of t) c.args.seat.now.seat c.reserve.new.seat
+    few_by (slots_of t) (room_of t) g.L.FreedList.loads c.args.seat.now.seat c.reserve.new.seat
     c.args.seat.now.effort c.reserve.new.effort (returns-in_err-reserved-clause-frees g c)
-    (refused_within (slots_of t) (capacity_of t) (is_strict t) c.args.draft
+    (refused_within _ _ (slots_of t) (capacity_of t) (is_strict t) c.args.draft
     c.in_err-reserved.field-0.0 (view c.args.seat.now.seat) (view c.reserve.new.seat)
-    (refused_by (slots_of t) (capacity_of t) (is_strict t) c.args.draft
+    (refused_by _ _ (slots_of t) (capacity_of t) (is_strict t) c.args.draft
     c.in_err-reserved.field-0.0 (view c.args.seat.now.seat) (view c.reserve.new.seat)
-    c.in_err-reserved.ensures.view))
+    c.in_err-reserved.ensures.view) g.L.FreedList.loads)
 
 pub returns-in-Some-clause-evicts : goal.returns-in-Some-clause-evicts
 returns-in-Some-clause-evicts g c =
     let told = c.in-Some.ensures in
     let r = (rw c.in-Reserved.is at c.in_ok-reserved.ensures.view).0 in (
       _,
-      puts_in c.args.self.now c.args.draft g.T.Tag.fits _ c.args.value.now c.args.seat.now
+      puts_in c.args.self.now c.args.draft g.T.Tag.fits _ _ _ c.args.value.now c.args.seat.now
           _ _ r c.in_ok-reserved.ensures.effort c.put.ensures.tally
           (rw c.in-Reserved.is at c.in_ok-reserved.ensures.evicts) told.view.1
           told.placed.1 told.placed.2 told.placed.0,
@@ -101,7 +103,8 @@ pub returns-in-Some-clause-frees : goal.returns-in-Some-clause-frees
 returns-in-Some-clause-frees g c =
     let t = c.args.self.now.table in
     let put = c.put.ensures.steps in
-    frees_by (slots_of t) (room_of t) put.visited c.args.seat.now.seat c.reserve.new.seat
+    frees_by (slots_of t) (room_of t) g.L.FreedList.loads put.visited c.args.seat.now.seat
+    c.reserve.new.seat
     c.put.new.seat.seat c.args.seat.now.effort c.put.new.seat.effort put.within
     (subst (λ n. Rose put.visited put.visited n c.put.new.seat.effort.probes)
     c.in_ok-reserved.ensures.effort.0 put.counted) c.in_ok-reserved.ensures.steps
@@ -112,15 +115,16 @@ returns-in-Some-clause-frees g c =
 pub returns-in-Some-clause-steps : goal.returns-in-Some-clause-steps
 returns-in-Some-clause-steps g c =
     let t = c.args.self.now.table in
-    few_by (slots_of t) (room_of t) c.args.seat.now.seat c.put.new.seat.seat
+    few_by (slots_of t) (room_of t) g.L.FreedList.loads c.args.seat.now.seat c.put.new.seat.seat
     c.args.seat.now.effort c.put.new.seat.effort (returns-in-Some-clause-frees g c)
-    (tries_within (returns-in-Some-clause-view g c).1.tries)
+    (tries_within (returns-in-Some-clause-view g c).1.tries g.L.FreedList.loads)
 
 pub returns-in-None-clause-evicts : goal.returns-in-None-clause-evicts
 returns-in-None-clause-evicts g c =
     let told = c.in-None.ensures in
     let r = (rw c.in-Reserved.is at c.in_ok-reserved.ensures.view).0 in
-    leaves_reserved c.args.self.now c.args.draft g.T.Tag.fits told.left.0 false c.args.seat.now _
+    leaves_reserved c.args.self.now c.args.draft g.T.Tag.fits _ _ told.left.0 false c.args.seat.now
+    _
     c.put.new.seat _ r
     c.in_ok-reserved.ensures.effort c.put.ensures.tally
     (rw c.in-Reserved.is at c.in_ok-reserved.ensures.evicts)
@@ -134,7 +138,8 @@ pub returns-in-None-clause-frees : goal.returns-in-None-clause-frees
 returns-in-None-clause-frees g c =
     let t = c.args.self.now.table in
     let put = c.put.ensures.steps in
-    frees_by (slots_of t) (room_of t) put.visited c.args.seat.now.seat c.reserve.new.seat
+    frees_by (slots_of t) (room_of t) g.L.FreedList.loads put.visited c.args.seat.now.seat
+    c.reserve.new.seat
     c.give_up.new.seat c.args.seat.now.effort c.put.new.seat.effort put.within
     (subst (λ n. Rose put.visited put.visited n c.put.new.seat.effort.probes)
     c.in_ok-reserved.ensures.effort.0 put.counted) c.in_ok-reserved.ensures.steps
@@ -146,14 +151,14 @@ returns-in-None-clause-frees g c =
 pub returns-in-None-clause-steps : goal.returns-in-None-clause-steps
 returns-in-None-clause-steps g c =
     let t = c.args.self.now.table in
-    few_by (slots_of t) (room_of t) c.args.seat.now.seat c.give_up.new.seat
+    few_by (slots_of t) (room_of t) g.L.FreedList.loads c.args.seat.now.seat c.give_up.new.seat
     c.args.seat.now.effort c.put.new.seat.effort (returns-in-None-clause-frees g c)
-    (tries_within (returns-in-None-clause-view g c).tries)
+    (tries_within (returns-in-None-clause-view g c).tries g.L.FreedList.loads)
 
 pub returns-in-NoPlace-clause-evicts : goal.returns-in-NoPlace-clause-evicts
 returns-in-NoPlace-clause-evicts g c =
     let r = (rw c.in-NoPlace.is at c.in_ok-reserved.ensures.view).0 in
-    leaves_unreserved c.args.self.now c.args.draft g.T.Tag.fits false c.args.seat.now _
+    leaves_unreserved c.args.self.now c.args.draft g.T.Tag.fits _ _ false c.args.seat.now _
     c.reserve.new.seat r (rw c.in-NoPlace.is at c.in_ok-reserved.ensures.evicts)
     (record { turns = refl; takings = refl; gone = refl; opened = refl }) refl
     (adds_none c.reserve.new.seat c.reserve.new.seat refl)
@@ -163,7 +168,7 @@ returns-in-NoPlace-clause-evicts g c =
 pub returns-in-NoPlace-clause-frees : goal.returns-in-NoPlace-clause-frees
 returns-in-NoPlace-clause-frees g c =
     let t = c.args.self.now.table in
-    frees_by (slots_of t) (room_of t) 0 c.args.seat.now.seat c.reserve.new.seat
+    frees_by (slots_of t) (room_of t) g.L.FreedList.loads 0 c.args.seat.now.seat c.reserve.new.seat
     c.reserve.new.seat c.args.seat.now.effort c.reserve.new.effort (omega arith)
     (rose_same _ _ c.in_ok-reserved.ensures.effort.0) c.in_ok-reserved.ensures.steps
     (omega arith)
@@ -172,9 +177,9 @@ returns-in-NoPlace-clause-frees g c =
 pub returns-in-NoPlace-clause-steps : goal.returns-in-NoPlace-clause-steps
 returns-in-NoPlace-clause-steps g c =
     let t = c.args.self.now.table in
-    few_by (slots_of t) (room_of t) c.args.seat.now.seat c.reserve.new.seat
+    few_by (slots_of t) (room_of t) g.L.FreedList.loads c.args.seat.now.seat c.reserve.new.seat
     c.args.seat.now.effort c.reserve.new.effort (returns-in-NoPlace-clause-frees g c)
-    (tries_within (returns-in-NoPlace-clause-view g c).tries)
+    (tries_within (returns-in-NoPlace-clause-view g c).tries g.L.FreedList.loads)
 
 pub returns-in-Some-clause-large : goal.returns-in-Some-clause-large
 returns-in-Some-clause-large g c strict less =

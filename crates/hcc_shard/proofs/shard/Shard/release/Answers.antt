@@ -2,6 +2,7 @@ use Rattle.std.proofs.Common.{◌&&◌, true, false, None, Some, refl}
 use Rattle.hcc_rule.specs.Callers.{geometry_of, room_of}
 use Rattle.hcc_rule.specs.Addresses.{address_of_meta}
 use Rattle.hcc_rule.specs.Seats.{view}
+use Rattle.hcc_table.specs.Lists.{has_room}
 use Rattle.hcc_table.specs.Pins.{erases, is_useful}
 use Rattle.hcc_shard.proofs.Releases.{gives_back, gives_back_and_frees}
 use Rattle.hcc_shard.proofs.Settlings.{released, released_only}
@@ -44,16 +45,18 @@ pub returns-in-Some-clause-gives : goal.returns-in-Some-clause-gives
 returns-in-Some-clause-gives g c =
     let told = c.in-Some.ensures in
     gives_back_and_frees (address_of_meta c.args.self.now.table c.args.pin.slot) c.args.pin.slot
-    c.args.pin.name (is_useful c.args.as_use && c.args.pin.counting) (erases c.args.last)
-    told.tried.0 c.in-Some.charge c.args.seat.now.effort _ c.args.seat.now.seat told.tried.1
+    c.args.pin.name (has_room 1 (g.L.FreedList.shelf c.args.list.now))
+    (is_useful c.args.as_use && c.args.pin.counting) (erases c.args.last) told.tried.0
+    c.in-Some.charge c.args.seat.now.effort _ c.args.seat.now.seat told.tried.1
     c.release.new.seat c.settle.new.seat told.tried.2 told.tried.3 c.settle.ensures.adds
 
 pub returns-in-None-clause-gives : goal.returns-in-None-clause-gives
 returns-in-None-clause-gives g c =
     let told = c.in-None.ensures in
     gives_back (address_of_meta c.args.self.now.table c.args.pin.slot) c.args.pin.slot
-    c.args.pin.name (is_useful c.args.as_use && c.args.pin.counting) (erases c.args.last)
-    told.tried.0 c.args.seat.now.effort _ c.args.seat.now.seat told.tried.1
+    c.args.pin.name (has_room 1 (g.L.FreedList.shelf c.args.list.now))
+    (is_useful c.args.as_use && c.args.pin.counting) (erases c.args.last) told.tried.0
+    c.args.seat.now.effort _ c.args.seat.now.seat told.tried.1
     c.release.new.seat told.tried.2 told.tried.3
 
 pub returns-in-Some-clause-by : goal.returns-in-Some-clause-by

@@ -2,6 +2,7 @@ use Rattle.std.proofs.Common.{◌≡◌, ℕ, ◌+◌, ◌-◌, ◌*◌, refl, a
 use Rattle.std.specs.Vec.{with_item}
 use Rattle.hcc_rule.specs.declared.geometry.Geometry.{Geometry}
 use Rattle.hcc_rule.specs.declared.view.View.{View}
+use Rattle.hcc_table.specs.Lists.{Hands, has_room}
 use Rattle.hcc_table.specs.Searched.{AllDead}
 use Rattle.hcc_table.specs.Steps.{freeing}
 use Rattle.hcc_shard.specs.Callers.{view_of, ErasesAt}
@@ -14,7 +15,7 @@ use Rattle.hcc_cache.proofs.Clients.AtOneShard.{did_at, does_at, is_at, seated_a
 use Rattle.hcc_cache.proofs.Searches.MissedOrErasedKeys.{all_held_dead}
 use Rattle.hcc_cache.proofs.Clients.HoldsTheSame.{keeps_same, knows_same, same_erased}
 use Rattle.hcc_cache.proofs.Clients.Seats.{steps_set}
-use Rattle.hcc_cache.proofs.cache.Cache.erase.Goals as goal
+use Rattle.hcc_cache.proofs.cache.Cache.erase_listed.Goals as goal
 
 pub erase-requires : goal.erase-requires
 erase-requires g c =
@@ -84,8 +85,9 @@ returns-clause-searched g c =
     ∙ ap (λ k. shard_of k (length cache.shards.items)) words in
     did_at cache old _ i c.index.result.now was c.erase.new.seat at
     (record { seats = refl; number = refl; most = refl; seed = refl; capacities = refl })
-    (λ s a b. ErasesAt (fits_seeded g.T.Tag.fits) s (key_to cache.seed c.args.key) c.erase.result a
-    b) (rw (← words) c.erase.ensures.erases) (shard_in cache c.args.key) there
+    (λ s a b. ErasesAt (fits_seeded g.T.Tag.fits) s (key_to cache.seed c.args.key)
+    (has_room 1 (g.L.FreedList.shelf c.erase.new.list)) c.erase.result a b) (rw (← words)
+    c.erase.ensures.erases) (shard_in cache c.args.key) there
 
 pub returns-clause-counts : goal.returns-clause-counts
 returns-clause-counts g c =
@@ -101,6 +103,21 @@ returns-clause-counts g c =
     (c.shard_number-shard.ensures.value
     ∙ ap (λ k. shard_of k (length cache.shards.items)) c.key_to-seeded.ensures.words)
 
+pub returns-clause-list : goal.returns-clause-list
+returns-clause-list g c =
+    let cache = c.args.self.now in
+    let old = c.args.client.now in
+    let i = c.shard_number-shard.result in
+    let was = c.index_mut-seat.result.now in
+    let at = is_at cache old i c.index.result.now was c.requires
+    c.shard_number-shard.ensures.inside c.index.ensures c.index_mut-seat.ensures.value in
+    did_at cache old _ i c.index.result.now was c.erase.new.seat at
+    (record { seats = refl; number = refl; most = refl; seed = refl; capacities = refl })
+    (λ s a b. Hands (g.L.FreedList.shelf c.args.list.now) (g.L.FreedList.shelf c.erase.new.list)
+    (view_of a) (view_of b)) c.erase.ensures.list (shard_in cache c.args.key)
+    (c.shard_number-shard.ensures.value
+    ∙ ap (λ k. shard_of k (length cache.shards.items)) c.key_to-seeded.ensures.words)
+
 pub returns-clause-frees : goal.returns-clause-frees
 returns-clause-frees g c =
     let cache = c.args.self.now in
@@ -112,7 +129,7 @@ returns-clause-frees g c =
     c.shard_number-shard.ensures.inside c.index.ensures c.index_mut-seat.ensures.value in
     let alike = at.knows.alike.plans i c.index.result.now at.shard_is in
     let more : View _ → View _ → ℕ = λ v w.
-    (cache.geometry.slots + 4) * (w.takings - v.takings) + 2 in
+    (cache.geometry.slots + 4 + g.L.FreedList.loads) * (w.takings - v.takings) + 2 in
     takes_for cache old (record old { seats = with_item old.seats i is }) i c.index.result.now was
     is at (record {
       seats = refl;
@@ -136,8 +153,9 @@ returns-clause-steps g c =
     c.shard_number-shard.ensures.inside c.index.ensures c.index_mut-seat.ensures.value in
     let slots : c.index.result.now.table.geometry.slots ≡ cache.geometry.slots =
     ap (λ (x : Geometry). x.slots) (at.knows.alike.plans i c.index.result.now at.shard_is).0 in
-    let each = freeing c.index.result.now.table.geometry.slots + 9 in
+    let each = freeing c.index.result.now.table.geometry.slots + g.L.FreedList.loads + 9 in
     let told = c.erase.ensures.steps in
     let most = mul-le-mul_left each told.within in
-    steps_set old.seats.items i ((freeing cache.geometry.slots + 9) * cache.geometry.slots + 2) was
+    steps_set old.seats.items i
+    ((freeing cache.geometry.slots + g.L.FreedList.loads + 9) * cache.geometry.slots + 2) was
     c.erase.new.seat at.seat_is (rw (← slots) (let made = told.steps in omega arith))

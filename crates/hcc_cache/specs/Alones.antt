@@ -1,0 +1,13 @@
+-- Values of standalone entries.
+use Rattle.std.specs.Prelude.{◌≡◌, ℕ, List}
+use Rattle.hcc_cache.specs.declared.holding.Value.{Value}
+use Rattle.hcc_cache.specs.declared.holding.Value.TheVariants.{Bytes, Word}
+
+-- the bytes of one
+abbrev pub bytes_of : Value → List ℕ
+bytes_of (Bytes value) = value.items
+bytes_of (Word word) = word
+
+-- one of an object
+abbrev pub IsObject : Value → Type 0
+IsObject value = (word : List ℕ) × (value ≡ Word word)
