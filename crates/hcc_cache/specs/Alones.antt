@@ -1,5 +1,5 @@
 -- Values of standalone entries.
-use Rattle.std.specs.Prelude.{◌≡◌, ℕ, List}
+use Rattle.std.specs.Prelude.{ℕ, List}
 use Rattle.hcc_cache.specs.declared.holding.Value.{Value}
 use Rattle.hcc_cache.specs.declared.holding.Value.TheVariants.{Bytes, Word}
 
@@ -7,7 +7,3 @@ use Rattle.hcc_cache.specs.declared.holding.Value.TheVariants.{Bytes, Word}
 abbrev pub bytes_of : Value → List ℕ
 bytes_of (Bytes value) = value.items
 bytes_of (Word word) = word
-
--- one of an object
-abbrev pub IsObject : Value → Type 0
-IsObject value = (word : List ℕ) × (value ≡ Word word)

@@ -53,10 +53,10 @@ impl GoneList {
     /// Puts an entry behind the others.
     pub(crate) fn push(&mut self, freed: Freed)
         requires { self.old.count < length self.old.places.items }
-        ensures gone { take self.new.count self.new.places.items ≡ take self.old.count
-            self.old.places.items ++ freed ∷ [] }
-        ensures places { length self.new.places.items - self.new.count + 1 ≡ length
-            self.old.places.items - self.old.count }
+        ensures gone { take self.new.count self.new.places.items
+            ≡ take self.old.count self.old.places.items ++ freed ∷ [] }
+        ensures places { length self.new.places.items - self.new.count + 1
+            ≡ length self.old.places.items - self.old.count }
         ensures most { self.new.most ≡ self.old.most }
         ensures count { self.new.count ≡ self.old.count + 1 }
     {
@@ -66,12 +66,12 @@ impl GoneList {
 
     /// Takes the newest entry off, if there is one.
     pub(crate) fn take(&mut self) -> Option<Freed>
-        ensures some { IfSome result (λ freed. take self.old.count self.old.places.items ≡ take
-            self.new.count self.new.places.items ++ freed ∷ []) }
-        ensures none { IfNone result ((take self.old.count self.old.places.items ≡ []) × (self.new ≡
-            self.old)) }
-        ensures places { IfSome result (λ freed. length self.new.places.items - self.new.count ≡
-            length self.old.places.items - self.old.count + 1) }
+        ensures some { IfSome result (λ freed. take self.old.count self.old.places.items
+            ≡ take self.new.count self.new.places.items ++ freed ∷ []) }
+        ensures none { IfNone result ((take self.old.count self.old.places.items ≡ [])
+            × (self.new ≡ self.old)) }
+        ensures places { IfSome result (λ freed. length self.new.places.items - self.new.count
+            ≡ length self.old.places.items - self.old.count + 1) }
         ensures most { self.new.most ≡ self.old.most }
     {
         if self.count == 0 {

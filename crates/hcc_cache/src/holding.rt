@@ -1,10 +1,8 @@
 //! What a client keeps of its handles.
 ghost use Rattle.std.specs.Prelude.{◌≡◌, ◌+◌, ◌-◌, ◌<◌, ◌≤◌, ◌^◌, ◌↔◌, Some, None, IfErr, IfOk, IsErrOf};
-ghost use Rattle.std.specs.Int.{from_le_bytes};
-ghost use mir.Syntax.{w64};
 ghost use Rattle.slab.specs.Slab.{get, slab_len, HasRoomFor, Updates};
 ghost use Rattle.hcc_cache.specs.declared.holding.Kept.TheVariants.{Standing};
-ghost use Rattle.hcc_cache.specs.Alones.{bytes_of, IsObject};
+ghost use Rattle.hcc_cache.specs.Alones.{bytes_of};
 ghost use Rattle.hcc_cache.specs.Calls.{capacities_of};
 ghost use Rattle.hcc_cache.specs.Clients.{Holds, IsPinOf, hold_of};
 

@@ -79,9 +79,9 @@ module _ {T A : Type 0} (fits : T → Key → List ℕ → Type 0) (table : Rule
   -- A reservation found so many places taken, and this usage, and evicted exactly for what it
   -- asks for then, which left the seat c. The client's view counts the turns, what they took and
   -- the open place, its tally all that they did, and its effort the exchanges that they lost. The
-  -- steps before the eviction are told by their events, too. The list had room for a turn before,
-  -- and has it behind it, or not. Behind it the client keeps what it
-  -- reserved, or gives it back, and does nothing else.
+  -- steps before the eviction are told by their events, too. The list had room for a turn before
+  -- it, and has room behind it, or not. Behind it the client keeps what it reserved, or gives it
+  -- back, and does nothing else.
   pub record EvictsAsAsked (before after : Tally) (effort counted : Effort) (a d : SeatOf T)
       : Type 0 where
     pub taken : ℕ

@@ -100,8 +100,8 @@ pub fn reserve<T: Tag, A: Allocator, L: FreedList<T>>(
         charge result (view seat.old) (view seat.new) }
     ensures large { is_strict table.now ≡ true → capacity_of table.now < charge
         → result ≡ Err TooLarge }
-    ensures evicts { EvictsBy T.fits table.now charge (turn_room (L.shelf list.old)) (turn_room
-        (L.shelf list.new))
+    ensures evicts { EvictsBy T.fits table.now charge
+        (turn_room (L.shelf list.old)) (turn_room (L.shelf list.new))
         result tally.old tally.new effort.old effort.new seat.old seat.new }
     ensures still { (view seat.new).turns ≡ (view seat.old).turns
         → GoesOnStill table.now seat.old seat.new }
@@ -137,8 +137,8 @@ fn reserve_lax<T: Tag, A: Allocator, L: FreedList<T>>(
     ensures view { ReservedBy (turn_room (L.shelf list.old)) (turn_room (L.shelf list.new))
         (slots_of table.now) (capacity_of table.now) false
         charge (Ok result) (view seat.old) (view seat.new) }
-    ensures evicts { EvictsBy T.fits table.now charge (turn_room (L.shelf list.old)) (turn_room
-        (L.shelf list.new))
+    ensures evicts { EvictsBy T.fits table.now charge
+        (turn_room (L.shelf list.old)) (turn_room (L.shelf list.new))
         (Ok result) tally.old tally.new effort.old effort.new seat.old seat.new }
     ensures effort { Lost 0 (4 * most_turns (slots_of table.now)) effort.old effort.new }
     ensures steps { MakesAtMost (asking
@@ -178,8 +178,8 @@ fn reserve_strict<T: Tag, A: Allocator, L: FreedList<T>>(
         (slots_of table.now) (capacity_of table.now) true
         charge result (view seat.old) (view seat.new) }
     ensures not_large { result ≢ Err TooLarge }
-    ensures evicts { EvictsBy T.fits table.now charge (turn_room (L.shelf list.old)) (turn_room
-        (L.shelf list.new))
+    ensures evicts { EvictsBy T.fits table.now charge
+        (turn_room (L.shelf list.old)) (turn_room (L.shelf list.new))
         result tally.old tally.new effort.old effort.new seat.old seat.new }
     ensures effort { Lost 0 (4 * most_turns (slots_of table.now)) effort.old effort.new }
     ensures steps { MakesAtMost (asking
@@ -239,8 +239,8 @@ fn evict_for<T: Tag, A: Allocator, L: FreedList<T>>(
     ensures list { Hands (L.shelf list.old) (L.shelf list.new) (view seat.old) (view seat.new) }
     ensures swept { IsSweptFor (turn_room (L.shelf list.old)) (turn_room (L.shelf list.new))
         (slots_of table.now) ask result }
-    ensures evicts { EvictsFor T.fits table.now (turn_room (L.shelf list.old)) (turn_room (L.shelf
-        list.new))
+    ensures evicts { EvictsFor T.fits table.now
+        (turn_room (L.shelf list.old)) (turn_room (L.shelf list.new))
         ask result seat.old seat.new }
     ensures tally { Tallied result tally.old tally.new }
     ensures effort { Lost result.lost result.lost effort.old effort.new }

@@ -107,8 +107,8 @@ pub fn hide<T: Tag, A: Allocator, L: FreedList<T>>(
     ensures charge { result.charge ≤ result.slots * (2 ^ 32 - 1) }
     ensures hides { HidesAll T.fits table.now key name (has_room 1 (L.shelf list.new)) result
         effort.old effort.new seat.old seat.new }
-    ensures frees { MakesFor 9 ((slots_of table.now + 4 + L.loads) * result.slots) (slots_of
-        table.now)
+    ensures frees { MakesFor 9
+        ((slots_of table.now + 4 + L.loads) * result.slots) (slots_of table.now)
         effort.old effort.new seat.old seat.new }
     ensures steps { MakesFor (freeing (slots_of table.now) + L.loads + 9) 0 (slots_of table.now)
         effort.old effort.new seat.old seat.new }
@@ -158,8 +158,8 @@ fn hide_at<T: Tag, A: Allocator, L: FreedList<T>>(
         × PassesOrHides T.fits table.now key name (has_room 1 (L.shelf list.old)) slot word caught
         result effort.old effort.new seat.old seat.new
         × IfSome caught (λ stamp. is_in stamp (view seat.new).work.dead ≡ true) }
-    ensures steps { MakesAtMost ((slots_of table.now + 4 + L.loads) * result.slots + 8) seat.old
-        seat.new }
+    ensures steps { MakesAtMost ((slots_of table.now + 4 + L.loads) * result.slots + 8)
+        seat.old seat.new }
 {
     let data = table.data_of(slot);
     match acquire_at(table, seat, SlotAt { slot, data }, key, name, effort) {
@@ -196,8 +196,8 @@ fn hide_held<T: Tag, A: Allocator, L: FreedList<T>>(
         × (result.charge ≤ result.slots * (2 ^ 32 - 1)) }
     ensures hides { HidesHeld table.now slot name (has_room 1 (L.shelf list.old)) result
         effort.old effort.new seat.old seat.new }
-    ensures steps { MakesAtMost ((slots_of table.now + 4 + L.loads) * result.slots + 3) seat.old
-        seat.new }
+    ensures steps { MakesAtMost ((slots_of table.now + 4 + L.loads) * result.slots + 3)
+        seat.old seat.new }
 {
     let found = table.hide(seat, slot, name);
     let left = found & HIDING_MASK;
