@@ -33,7 +33,7 @@ ALLOCATES = re.compile(
 )
 # Public functions that may allocate, since no cache runs in them; and one that says that it does.
 MAY_ALLOCATE = {
-    "hcc_cache": "Cache::new Cache::reopen Closed::image Cache::close",
+    "hcc_cache": "Cache::new Cache::reopen Closed::image Cache::close ObjectCache::new ObjectCache::close",
     "hcc_block": "",
     "hcc_c": "ferretgold_raw_open ferretgold_raw_reopen ferretgold_raw_close ferretgold_raw_close_keeping"
     " ferretgold_raw_closed_open ferretgold_raw_closed_free ferretgold_raw_image_open"
@@ -43,6 +43,7 @@ MAY_ALLOCATE = {
 CALLED_BY_NOBODY = {
     "the sentence of an error, for whoever shows it": "hcc_core::CoreError::text hcc_shard::ReopenError::text"
     " hcc_cache::NewError::text hcc_cache::LookupError::text hcc_cache::InsertError::text hcc_cache::CloseError::text"
+    " hcc_cache::ObjectNewError::text hcc_cache::ObjectError::text hcc_cache::ObjectCloseError::text"
     " hcc_block::ReadError::text hcc_player::TextFault::text",
     "for whoever reads through the cache: a source for tests, and the key of a block that is to be erased":
     "hcc_block::FailingSource::new hcc_block::key_of",

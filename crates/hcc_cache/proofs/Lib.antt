@@ -3,6 +3,7 @@ pub mod Clients
 pub mod Handles
 pub mod Searches
 pub mod Insertions
+pub mod HandedBack
 pub mod Beginnings
 pub mod Endings
 pub mod Images

@@ -24,6 +24,22 @@ use Rattle.hcc_cache.specs.Clients.{held_by, view_at}
 use Rattle.hcc_cache.specs.Keys.{fits_seeded}
 use Rattle.hcc_cache.specs.Known.{Knows}
 
+-- Of what has a number, of which some have more than none.
+
+module _ {X : Type 0} (many number : X → ℕ) where
+  -- none has any
+  abbrev pub NoneHas : List X → Type 0
+  NoneHas xs = (k : ℕ) (x : X) → slice_get xs k ≡ Some x → many x ≡ 0
+
+  -- the least number of one that has some
+  pub record IsLeastOf (xs : List X) (least_is : ℕ) : Type 0 where
+    pub index : ℕ
+    pub holder : X
+    pub there : slice_get xs index ≡ Some holder
+    pub holds : 0 < many holder
+    pub called : number holder ≡ least_is
+    pub least : (k : ℕ) (x : X) → slice_get xs k ≡ Some x → 0 < many x → least_is ≤ number x
+
 -- Of views.
 
 module _ {T : Type 0} where
@@ -65,14 +81,8 @@ module _ {T : Type 0} where
     pub listed : slice_get (view_at shard client).made stamp.number ≡ Some made
 
   -- the least number of a client that holds a handle
-  pub record IsLeastHolder (clients : List (Client T)) (number : ℕ) : Type 0 where
-    pub index : ℕ
-    pub holder : Client T
-    pub there : slice_get clients index ≡ Some holder
-    pub holds : 0 < held_by holder
-    pub called : holder.number ≡ number
-    pub least : (k : ℕ) (client : Client T) → slice_get clients k ≡ Some client
-        → 0 < held_by client → number ≤ client.number
+  abbrev pub IsLeastHolder : List (Client T) → (number : ℕ) → Type 0
+  IsLeastHolder clients number = IsLeastOf held_by (λ c. c.number) clients number
 
   -- why a cache is not closed
   abbrev pub Refuses : CloseError → Cache T → List (Client T) → Type 0

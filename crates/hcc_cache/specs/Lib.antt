@@ -10,10 +10,16 @@ pub mod Opened
 pub mod Moments
 pub mod Calls
 pub mod Gone
+pub mod Objects
 pub mod Left
 pub mod Closings
 pub mod Ended
 pub mod Inserts
+pub mod ObjectInserts
+pub mod ObjectConfigs
+pub mod ObjectsOpened
+pub mod ObjectsLeft
+pub mod ObjectsClosed
 pub mod Totals
 pub mod Texts
 pub mod Gets

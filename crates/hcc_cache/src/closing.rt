@@ -66,7 +66,7 @@ impl<T: Tag + Copy> Cache<T> {
     }
 
     /// The same, where all came back with no handle.
-    fn closed(self, mut clients: Vec<Client<T>>) -> Closed
+    pub(crate) fn closed(self, mut clients: Vec<Client<T>>) -> Closed
         requires { AreBack self clients.items }
         ensures closes { IsClosed T.fits self clients.items result }
         ensures left { LeavesWorlds T.fits self clients.items result }

@@ -34,9 +34,9 @@ pub(crate) struct GoneList {
 impl GoneList {
     /// An empty list, for so many entries that calls free and so many that stand alone.
     pub(crate) fn open(alloc: Global, most: u32, alone: u32) -> Result<GoneList, AllocError>
-        ensures empty { IfOk result (λ list. take list.count list.places.items ≡ []) }
-        ensures room { IfOk result (λ list. list.most ≡ most) }
-        ensures free { IfOk result (λ list. length list.places.items - list.count ≡ most + alone) }
+        ensures empty { IfOk result (λ list. list.count ≡ 0) }
+        ensures most { IfOk result (λ list. list.most ≡ most) }
+        ensures places { IfOk result (λ list. length list.places.items ≡ most + alone) }
     {
         let none = Freed {
             key: Key { w0: 0, w1: 0 },
@@ -50,8 +50,22 @@ impl GoneList {
         })
     }
 
+    /// How many entries are on it.
+    pub(crate) fn len(&self) -> usize
+        ensures { result ≡ self.now.count }
+    {
+        self.count
+    }
+
+    /// How many places are left on it, for the client's own entries, too.
+    pub(crate) fn places_left(&self) -> usize
+        ensures { result ≡ length self.now.places.items - self.now.count }
+    {
+        self.places.len() - self.count
+    }
+
     /// Puts an entry behind the others.
-    pub(crate) fn push(&mut self, freed: Freed)
+    pub(crate) fn add(&mut self, freed: Freed)
         requires { self.old.count < length self.old.places.items }
         ensures gone { take self.new.count self.new.places.items
             ≡ take self.old.count self.old.places.items ++ freed ∷ [] }
@@ -108,6 +122,6 @@ impl FreedList<Seeded<Objects>> for GoneList {
     }
 
     fn put(&mut self, freed: Freed) {
-        self.push(freed);
+        self.add(freed);
     }
 }

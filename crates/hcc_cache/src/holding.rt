@@ -1,8 +1,10 @@
 //! What a client keeps of its handles.
 ghost use Rattle.std.specs.Prelude.{◌≡◌, ◌+◌, ◌-◌, ◌<◌, ◌≤◌, ◌^◌, ◌↔◌, Some, None, IfErr, IfOk, IsErrOf};
+ghost use Rattle.std.specs.Int.{from_le_bytes};
+ghost use mir.Syntax.{w64};
 ghost use Rattle.slab.specs.Slab.{get, slab_len, HasRoomFor, Updates};
 ghost use Rattle.hcc_cache.specs.declared.holding.Kept.TheVariants.{Standing};
-ghost use Rattle.hcc_cache.specs.Alones.{bytes_of};
+ghost use Rattle.hcc_cache.specs.Alones.{bytes_of, IsObject};
 ghost use Rattle.hcc_cache.specs.Calls.{capacities_of};
 ghost use Rattle.hcc_cache.specs.Clients.{Holds, IsPinOf, hold_of};
 
@@ -72,20 +74,23 @@ pub(crate) enum Value {
 
 /// What an insertion gives that may come to stand alone.
 pub(crate) trait Standing: Drop {
-    ghost use Rattle.std.specs.Prelude.{ℕ, List};
+    ghost use Rattle.hcc_cache.specs.declared.holding.Value.{Value};
+    ghost use Rattle.hcc_cache.specs.Alones.{bytes_of, IsObject};
 
-    // Its bytes.
-    ghost bytes: { Self → List ℕ };
+    // As an entry has it.
+    ghost value: { Self → Value };
 
     fn as_bytes(&self) -> &[u8]
-        ensures { result.now ≡ bytes self.now };
+        ensures { result.now ≡ bytes_of (value self.now) };
 
     fn into_value(self) -> Value
-        ensures { bytes_of result ≡ bytes self };
+        ensures { result ≡ value self };
 }
 
 impl Standing for Vec<u8> {
-    ghost bytes = { λ value. value.items };
+    ghost use Rattle.hcc_cache.specs.declared.holding.Value.TheVariants.{Bytes};
+
+    ghost value = { λ value. Bytes value };
 
     #[inline(always)]
     fn as_bytes(&self) -> &[u8] {
@@ -99,7 +104,9 @@ impl Standing for Vec<u8> {
 }
 
 impl Standing for [u8; 8] {
-    ghost bytes = { λ word. word };
+    ghost use Rattle.hcc_cache.specs.declared.holding.Value.TheVariants.{Word};
+
+    ghost value = { λ word. Word word };
 
     #[inline(always)]
     fn as_bytes(&self) -> &[u8] {
@@ -120,6 +127,17 @@ impl Value {
         match self {
             Value::Bytes(value) => value,
             Value::Word(word) => word,
+        }
+    }
+
+    /// The word of an object.
+    pub(crate) fn word(&self) -> u64
+        requires { IsObject self.now }
+        ensures { result ≡ from_le_bytes w64 (bytes_of self.now) }
+    {
+        match self {
+            Value::Bytes(_) => unreachable!(),
+            Value::Word(word) => u64::from_le_bytes(*word),
         }
     }
 }

@@ -4,6 +4,7 @@ ghost use Rattle.slab.specs.Slab.{get, slab_len, HasRoomFor, Updates};
 ghost use Rattle.hcc_cache.specs.declared.holding.Kept.TheVariants.{Standing};
 ghost use Rattle.hcc_charge.specs.Evicted.{turn_room};
 ghost use Rattle.hcc_shard.specs.Inserted.{inserting, inserting_between, inserting_listed, listed_between};
+ghost use Rattle.hcc_cache.specs.Alones.{AreAlone, LeavesAlone, bytes_of};
 ghost use Rattle.hcc_cache.specs.Calls.{HandsAt, OnlyAt, TakesAtMost, TakesFor, capacities_of, shard_in};
 ghost use Rattle.hcc_cache.specs.Clients.{held_by};
 ghost use Rattle.hcc_cache.specs.Inserts.{Inserts, InsertsAt, InsertsAtListed, InsertsListed, InsertsPinnedAt, InsertsPinnedAtListed, InsertsWith, InsertsWithListed, RefusesPinnedAt, RefusesPinnedAtListed, RefusesWith, RefusesWithListed, answer_of};
@@ -137,6 +138,7 @@ impl<T: Tag> Cache<T> {
             → KnowsShown self.now key client.new }
         ensures no_spent { ¬ IsErrOf result InsertError.Spent }
         ensures no_large { ¬ IsErrOf result InsertError.TooLarge }
+        ensures alone { AreAlone client.old client.new }
         ensures others { OnlyAt (shard_in self.now key) client.old client.new }
         ensures frees { TakesFor self.now 7
             (listed_between self.now.geometry.slots self.now.geometry.room L.loads)
@@ -159,7 +161,7 @@ impl<T: Tag> Cache<T> {
     }
 
     /// Whether a charge is above the capacity of a shard, which is strict.
-    fn is_too_large(&self, charge: u32) -> bool
+    pub(crate) fn is_too_large(&self, charge: u32) -> bool
         ensures yes { result ≡ true → (self.now.strict ≡ true) × (self.now.capacity < charge) }
         ensures no { (self.now.strict ≡ true) × (self.now.capacity < charge) → result ≡ true }
     {
@@ -276,8 +278,8 @@ impl<T: Tag> Cache<T> {
         list: &mut L,
     ) -> Result<(Handle, Inserted), (InsertError, V)>
         requires known { Knows self.now client.old }
-        requires fits { T.fits self.now.tag key (V.bytes value) }
-        requires short { length (V.bytes value) ≤ 8 * self.now.geometry.room }
+        requires fits { T.fits self.now.tag key (bytes_of (V.value value)) }
+        requires short { length (bytes_of (V.value value)) ≤ 8 * self.now.geometry.room }
         requires paid { 0 < charge }
         requires free { (held_by client.old < client.old.most) × (0 < client.old.left) }
         requires small { self.now.strict ≡ true → charge ≤ self.now.capacity }
@@ -288,10 +290,10 @@ impl<T: Tag> Cache<T> {
         ensures list { HandsAt self.now (L.shelf list.old) (L.shelf list.new)
             (shard_in self.now key) client.old client.new }
         ensures inserted { MatchResult result
-            (λ made. InsertsWithListed self.now key charge priority (V.bytes value)
+            (λ made. InsertsWithListed self.now key charge priority (bytes_of (V.value value))
             (turn_room (L.shelf list.old)) (turn_room (L.shelf list.new)) made.0 made.1
             client.old client.new)
-            (λ e. RefusesWithListed self.now key charge priority (V.bytes value)
+            (λ e. RefusesWithListed self.now key charge priority (bytes_of (V.value value))
             (turn_room (L.shelf list.old)) (turn_room (L.shelf list.new)) e.0
             client.old client.new) }
         ensures evicts { MatchResult result
@@ -301,6 +303,9 @@ impl<T: Tag> Cache<T> {
             (λ e. RefusesPinnedAtListed self.now T.fits key charge priority
             (turn_room (L.shelf list.old)) (turn_room (L.shelf list.new)) e.0
             client.old client.new) }
+        ensures alone { MatchResult result
+            (λ made. LeavesAlone (V.value value) made.1 client.old client.new)
+            (λ e. AreAlone client.old client.new) }
         ensures shown { self.now.geometry.clients ≡ 1
             → IfOk result (λ made. made.1 ≡ Inserted.Placed
             → KnowsShown self.now key client.new) }

@@ -1,8 +1,11 @@
 //! Look-ups, and more handles on what is held.
-ghost use Rattle.std.specs.Prelude.{◌≡◌, ◌*◌, ◌<◌, ◌≤◌, ◌↔◌, IfSome, IfNone, IfOk, OnErr, IsErrOf, Some, length};
+ghost use Rattle.std.specs.Prelude.{◌≡◌, ◌+◌, ◌*◌, ◌<◌, ◌≤◌, ◌↔◌, ℕ, List, IfSome, IfNone, IfOk, OnErr, IsErrOf, Some, length};
+ghost use Rattle.hcc_rule.specs.declared.key.Key.{Key};
+ghost use Rattle.hcc_rule.specs.Words.{payload_word};
 ghost use Rattle.hcc_shard.specs.Callers.{AcquiresAt};
 ghost use Rattle.hcc_cache.specs.declared.holding.Kept.TheVariants.{Pinned, Standing};
 ghost use Rattle.hcc_cache.specs.Calls.{AcquiresFor, AtShard, CountsAt, CountsBy, CountsNone, Finds, Misses, Rerefs, SearchesFor, TakesAtMost, TakesFor, shard_in};
+ghost use Rattle.hcc_cache.specs.Alones.{AreAlone};
 ghost use Rattle.hcc_cache.specs.Clients.{held_by, hold_of, Holds, IsPinOf};
 ghost use Rattle.hcc_cache.specs.Keys.{key_from};
 ghost use Rattle.hcc_cache.specs.Sharding.{key_to, shard_of};
@@ -78,6 +81,42 @@ impl<T: Tag> Cache<T> {
         Some(client.keep(key, shard, pinned(pin)))
     }
 
+    /// The same as `lookup`, with the first word of the value, where each value of the tag has one.
+    pub(crate) fn lookup_word(
+        &self,
+        client: &mut Client<T>,
+        key: Key,
+    ) -> Result<Option<(Handle, u64)>, LookupError>
+        requires known { Knows self.now client.old }
+        requires words { (k : Key) (value : List ℕ) → T.fits self.now.tag k value
+            → 0 < length value }
+        ensures known { Knows self.now client.new }
+        ensures full { IsErrOf result LookupError.HandlesFull
+            ↔ (held_by client.old ≡ client.old.most) }
+        ensures spent { IsErrOf result LookupError.Spent
+            ↔ ((held_by client.old < client.old.most) × (client.old.left ≡ 0)) }
+        ensures refused { OnErr result (client.new ≡ client.old) }
+        ensures found { IfOk result (λ o. IfSome o (λ found.
+            (finds : Finds self.now T.fits key found.0 client.old client.new)
+            × (found.1 ≡ payload_word finds.found.entry.value 0))) }
+        ensures missed { IfOk result (λ o. IfNone o
+            (Misses self.now key client.old client.new)) }
+        ensures alone { AreAlone client.old client.new }
+        ensures steps { TakesAtMost (7 * self.now.geometry.slots + 1) client.old client.new }
+    {
+        client.may_hold()?;
+        let seeded = self.key_to(client, key);
+        let number = self.shard_number(seeded);
+        let shard = &self.shards[number];
+        let serial = client.used;
+        let seat = &mut client.seats[number];
+        let Some(pin) = shard.lookup(seat, seeded.in_shard, serial) else {
+            return Ok(None);
+        };
+        let word = shard.first_word(seat, pin);
+        Ok(Some((client.keep(key, number, pinned(pin)), word)))
+    }
+
     /// A key under the cache's seed, which each call has from its client: the cache lies further.
     #[inline(always)]
     pub(crate) fn key_to(&self, client: &Client<T>, key: Key) -> SeededKey
@@ -119,9 +158,25 @@ impl<T: Tag> Cache<T> {
     {
         let hold = client.hold(handle);
         client.may_hold()?;
+        Ok(self.again(client, handle, hold))
+    }
+
+    /// The same, where a handle may be given.
+    pub(crate) fn again(&self, client: &mut Client<T>, handle: Handle, hold: Hold) -> Handle
+        requires known { Knows self.now client.old }
+        requires held { hold_of client.old handle ≡ Some hold }
+        requires free { (held_by client.old < client.old.most) × (0 < client.old.left) }
+        ensures known { Knows self.now client.new }
+        ensures again { Rerefs self.now handle result client.old client.new }
+        ensures acquires { AcquiresFor self.now handle client.old client.new }
+        ensures stays { Stays self.now client.old client.new }
+        ensures counts { CountsBy handle client.old client.new }
+        ensures alone { AreAlone client.old client.new }
+        ensures steps { TakesAtMost 2 client.old client.new }
+    {
         match hold.pin() {
-            Ok(pin) => Ok(self.pinned_again(client, handle, hold, pin)),
-            Err(index) => Ok(self.standing_again(client, handle, hold, index)),
+            Ok(pin) => self.pinned_again(client, handle, hold, pin),
+            Err(index) => self.standing_again(client, handle, hold, index),
         }
     }
 
@@ -137,6 +192,7 @@ impl<T: Tag> Cache<T> {
             × AcquiresAt shard pin.slot counts was is) hold.shard client.old client.new }
         ensures stays { Stays self.now client.old client.new }
         ensures counts { CountsAt hold.shard client.old client.new }
+        ensures alone { AreAlone client.old client.new }
         ensures steps { TakesAtMost 2 client.old client.new }
     {
         let serial = client.used;
@@ -161,6 +217,7 @@ impl<T: Tag> Cache<T> {
         ensures again { Rerefs self.now handle result client.old client.new }
         ensures stays { Stays self.now client.old client.new }
         ensures counts { CountsNone client.old client.new }
+        ensures alone { AreAlone client.old client.new }
         ensures steps { TakesAtMost 0 client.old client.new }
     {
         client.alone[index].references += 1;

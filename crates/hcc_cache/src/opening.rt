@@ -46,7 +46,7 @@ impl<T: Tag + Copy> Cache<T> {
     }
 
     /// The same, where the numbers are within their ranges.
-    fn opened(
+    pub(crate) fn opened(
         alloc: Global,
         config: Config,
         tag: T,

@@ -1,6 +1,7 @@
 //! Handles that are given back.
 ghost use Rattle.std.specs.Prelude.{◌≡◌, ◌+◌, ◌-◌, ◌*◌, ◌&&◌, true, false, IfNone, IfSome, Some};
 ghost use Rattle.hcc_cache.specs.declared.holding.Kept.TheVariants.{Pinned, Standing};
+ghost use Rattle.hcc_cache.specs.Alones.{LessAlone};
 ghost use Rattle.hcc_cache.specs.Calls.{CountsAt, CountsBy, CountsNone, GivesBackIn, GivesUp, HandsAt, Releases, TakesAtMost};
 ghost use Rattle.hcc_cache.specs.Clients.{hold_of, Holds, IsPinOf};
 ghost use Rattle.hcc_cache.specs.Handles.{handle_of, HoldsNone};
@@ -174,6 +175,7 @@ impl<T: Tag> Cache<T> {
         ensures known { Knows self.now client.new }
         ensures released { (erase : _) → Releases self.now handle erase result
             client.old client.new }
+        ensures alone { LessAlone index result client.old client.new }
         ensures stays { Stays self.now client.old client.new }
         ensures counts { CountsNone client.old client.new }
         ensures steps { TakesAtMost 2 client.old client.new }

@@ -8,6 +8,7 @@ mod errors;
 mod example;
 mod full;
 mod keys;
+mod objects;
 mod opening;
 mod rows;
 mod shared;

@@ -9,7 +9,7 @@ ghost use Rattle.hcc_rule.specs.Looked.{after_look, HoldsAll, Backs};
 ghost use Rattle.hcc_rule.specs.ToldOwners.{after_read};
 ghost use Rattle.hcc_rule.specs.ToldTrails.{passed_held};
 ghost use Rattle.hcc_rule.specs.Records.{different, record_in};
-ghost use Rattle.hcc_rule.specs.Words.{key_of, words_for};
+ghost use Rattle.hcc_rule.specs.Words.{key_of, payload_word, words_for};
 ghost use Rattle.hcc_table.specs.Pins.{IsPinned};
 ghost use Rattle.hcc_table.specs.Steps.{MakesAtMost};
 ghost use Rattle.hcc_shard.specs.Callers.{LoadsDisplacement, LoadsWord};
@@ -20,7 +20,7 @@ ghost use Rattle.hcc_shard.specs.Stays.{CountsBy, LooksBy, SeeksAt};
 use crate::seat::ShardSeat;
 use crate::shard::Shard;
 use hcc_rule::{Key, Tag};
-use hcc_table::{Pin, PinAt, copy_bytes, displacement, read_bytes, read_key, read_len, word};
+use hcc_table::{Pin, PinAt, copy_bytes, displacement, read_bytes, read_key, read_len, read_word, word};
 use std::alloc::Allocator;
 
 impl<T: Tag, A: Allocator> Shard<T, A> {
@@ -113,6 +113,26 @@ impl<T: Tag, A: Allocator> Shard<T, A> {
         let data = self.table.data_of(pin.slot);
         let held = PinAt { pin, data };
         read_len(&self.table, &mut seat.seat, held)
+    }
+
+    /// The first eight bytes of the value of the entry of a pin that the client holds, the lowest
+    /// first.
+    ///
+    /// The value isn't empty. It refuses nothing and allocates nothing. It costs one load.
+    pub fn first_word(&self, seat: &mut ShardSeat<T>, pin: Pin) -> u64
+        requires seat { Rests self.now seat.old }
+        requires slot { IsSlotOf self.now.table pin.slot }
+        requires holds { IsPinned pin (view seat.old.seat) }
+        ensures seat { Rests self.now seat.new }
+        ensures view { view seat.new.seat ≡ view seat.old.seat }
+        ensures exact { IfSome (record_in pin.name (view seat.old.seat).records)
+            (λ r. 0 < length r.entry.value → result ≡ payload_word r.entry.value 0) }
+        ensures seeks { SeeksAt self.now seat.old seat.new }
+        ensures counts { SameCounts seat.old seat.new }
+        ensures steps { MakesAtMost 1 seat.old.seat seat.new.seat }
+    {
+        let data = self.table.data_of(pin.slot);
+        read_word(&self.table, &mut seat.seat, PinAt { pin, data }, 0)
     }
 
     /// Copies the value of the entry of a pin that the client holds to the front of a buffer, which

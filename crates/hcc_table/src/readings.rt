@@ -319,8 +319,13 @@ fn copy_word<T: Tag, A: Allocator>(
     put(buffer, 8 * index, count, word);
 }
 
-/// A word of the value, by its index, of the entry of a pin.
-fn read_word<T: Tag, A: Allocator>(
+/// A word of the value, by its index, of the entry of a pin: the bytes from eight times the index
+/// on, the lowest first. Behind the value it may be any.
+///
+/// The client holds the pin's reference. What the client has stays. It refuses nothing and
+/// allocates nothing. It costs one load.
+#[inline(always)]
+pub fn read_word<T: Tag, A: Allocator>(
     table: &RuleTable<T, A>,
     seat: &mut RuleSeat<T>,
     held: PinAt,

@@ -4,7 +4,7 @@
 //! looks inside it. [`layout`] says where the fields are. The functions read them, give the word
 //! that a step leaves, and give the words that a new entry starts with, that the clock puts in
 //! place and that a correction puts in place. Beside them, a key is seeded by a map that can be
-//! undone.
+//! undone, and an object's address and kind are packed into one word.
 //!
 //! All functions are pure, allocate nothing, and cost a few instructions.
 //!
@@ -18,8 +18,10 @@
 mod changes;
 mod fields;
 pub mod layout;
+mod objects;
 mod seeding;
 
 pub use changes::{acquired, clocked, corrected, given_back, released, started, unreferenced};
 pub use fields::{acquires, hit, refs, releases, state};
+pub use objects::{ADDRESS_BITS, object_address, object_kind, packed_object};
 pub use seeding::{seeded, unseeded};

@@ -1,5 +1,5 @@
 -- Fronts of lists, lists with one more, and lists turned round.
-use Rattle.std.proofs.Common.{◌≡◌, ◌⊎◌, inl, inr, ℕ, zero, suc, ◌-◌, ◌<◌, List, [], ◌∷◌, ◌++◌, Some, length, reverse, take, get_or, slice_get, sym, refl, ap, ◌∙◌, arith}
+use Rattle.std.proofs.Common.{◌≡◌, ◌⊎◌, inl, inr, ℕ, zero, suc, ◌-◌, ◌<◌, List, [], ◌∷◌, ◌++◌, None, Option, Some, drop, flat_map, length, map, reverse, take, get_or, slice_get, sym, refl, ap, ◌+◌, ◌∙◌, add-one, arith}
 use Rattle.std.proofs.lemmas.List.{get_or-reverse}
 use Rattle.std.proofs.lemmas.Option.{get_or_from_slice_get, slice_get-get_or}
 
@@ -46,3 +46,24 @@ module _ {X : Type 0} where
     | inl e ↦ inl e
     | inr e ↦ inr (ap suc e.0, e.1)
   ]
+
+-- a member of a list that a function makes of another
+pub at_map : {A B : Type 0} (f : A → B) (xs : List A) (k : ℕ) (y : B)
+    → slice_get (map f xs) k ≡ Some y → (x : A) × (slice_get xs k ≡ Some x) × (f x ≡ y)
+at_map f [] k y here = cc
+at_map f (x ∷ xs) zero y here = (x, refl, cc)
+at_map f (x ∷ xs) (suc k) y here = at_map f xs k y here
+
+-- what is behind a place is the next element, if there is one, and what is behind that
+drop_next : {A B : Type 0} (f : A → List B) (g : Option A → List B) (xs : List A) (n : ℕ)
+    → g None ≡ [] → ((x : A) → g (Some x) ≡ f x)
+    → flat_map f (drop n xs) ≡ g (slice_get xs n) ++ flat_map f (drop (suc n) xs)
+drop_next f g [] zero none some = rw none refl
+drop_next f g [] (suc n) none some = rw none refl
+drop_next f g (x ∷ xs) zero none some = rw (some x) refl
+drop_next f g (x ∷ xs) (suc n) none some = drop_next f g xs n none some
+
+pub drop_more : {A B : Type 0} (f : A → List B) (g : Option A → List B) (xs : List A) (n : ℕ)
+    → g None ≡ [] → ((x : A) → g (Some x) ≡ f x)
+    → flat_map f (drop n xs) ≡ g (slice_get xs n) ++ flat_map f (drop (n + 1) xs)
+drop_more f g xs n none some = rw add-one (drop_next f g xs n none some)

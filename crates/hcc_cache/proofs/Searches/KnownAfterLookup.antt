@@ -1,5 +1,5 @@
 -- What a client knows once a look-up found an entry, or none.
-use Rattle.std.proofs.Common.{◌≡◌, ℕ, ◌+◌, ◌*◌, ◌^◌, ◌<◌, ◌≤◌, Bool, List, [], ◌∷◌, ◌++◌, Option, Some, is_some, length, option_map, sym, ap, subst, ◌∙◌, arith}
+use Rattle.std.proofs.Common.{◌≡◌, ℕ, ◌+◌, ◌*◌, ◌^◌, ◌<◌, ◌≤◌, Bool, List, [], ◌∷◌, ◌++◌, Option, Some, is_some, length, option_map, refl, sym, ap, subst, ◌∙◌, arith}
 use Rattle.hcc_rule.specs.declared.geometry.Geometry.{Geometry}
 use Rattle.hcc_rule.specs.declared.key.Key.{Key}
 use Rattle.hcc_rule.specs.declared.view.Record.{Record}
@@ -262,3 +262,12 @@ module _ {T : Type 0} where
             right = rw undone at right;
             gains = gains_pinned;
           }
+
+      -- and it is that entry
+      pub finds_it : (fits : T → Key → List ℕ → Type 0) (key : Key) (there : i ≡ shard_in cache key)
+          (undone : key_from cache.seed (key_to cache.seed key) ≡ key)
+          (found : IsFound (fits_seeded fits) (geometry_of shard).room slot old.used
+          (key_to cache.seed key) (view_of was) (view_of is) r)
+          → (finds fits key there undone found).found ≡ r
+      unfolding finds
+      finds_it fits key there undone found = refl

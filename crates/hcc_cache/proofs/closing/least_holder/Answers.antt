@@ -14,7 +14,7 @@ loop-client-preserved g c =
     slice_get_read clients (length clients) i one refl (omega arith) c.client-item.is in
     let step : take (i + 1) clients ≡ take i clients ++ one ∷ [] =
     rw add-one (take_snoc clients i one at) in
-    let more = holder_more (take i clients) one c.loop-client.least
+    let more = holder_more held_by (λ x. x.number) (take i clients) one c.loop-client.least
     (held_by one) refl c.loop-client.invariant.found c.loop-client.invariant.none in
     record {
       found = rw (step, c.with_one-least.ensures) more.0;

@@ -10,6 +10,7 @@ use Rattle.hcc_cache.proofs.Searches.KnownAfterLookup.{gains_pinned, knows_more}
 use Rattle.hcc_cache.proofs.Handles.OneMore.{IsGiven}
 use Rattle.hcc_table.proofs.Still.{reaches_seek, seeks_still}
 use Rattle.hcc_cache.proofs.Clients.ShownAfterwards.{stays_at}
+use Rattle.hcc_cache.proofs.HandedBack.AloneAfterwards.{alone_same}
 use Rattle.hcc_cache.proofs.cache.Cache.pinned_again.Goals as goal
 
 pub index_mut-seat-requires : goal.index_mut-seat-requires
@@ -113,6 +114,7 @@ returns g c =
       counts =
           does_at cache old new first.shard shard was is at change SameEvictions
           c.reref-pin.ensures.counts first.shard refl;
+      alone = alone_same old new change.most alone;
       steps =
           takes_at cache old new first.shard shard was is at change 2 c.reref-pin.ensures.steps;
     }

@@ -1,5 +1,6 @@
 use Rattle.std.proofs.Common.{◌≡◌, ◌∙◌, ◌+◌, ◌-◌, ◌≤◌, Some, None, get_or, slice_get, slice_set, ap, refl, subst, sym, arith}
 use Rattle.std.specs.Vec.{with_item}
+use Rattle.std.proofs.lemmas.Bool.{eq-eqb, ne_eqb}
 use Rattle.slab.specs.Slab.{Updates, get, with_value}
 use Rattle.hcc_cache.specs.declared.client.Client.{Client}
 use Rattle.hcc_cache.specs.declared.holding.Alone.{Alone}
@@ -76,6 +77,13 @@ returns-then-index-gt1 g c =
           releases_fewer cache old new c.args.handle hold lets c.args.index a c.requires.kept there
           c.requires.known b same reference some updates seats
           c.let_go.ensures.capacities;
+      alone = record {
+        most = ap (λ (x : Client g.row.T.Denot). x.most) rest;
+        entry = a;
+        there = there;
+        last = sym (ne_eqb a.references 1 (omega arith));
+        updates = updates;
+      };
       stays = stays_same cache old new seats;
       counts = λ s. ap (λ l. counts_by (slice_get l s)) seats;
       steps = omega arith;
@@ -161,6 +169,13 @@ returns g c =
       released =
           releases_fallen cache old new c.args.handle hold lets c.args.index a c.requires.kept there
           shard was is at change c.release_standalone.ensures.view one updates;
+      alone = record {
+        most = change.most;
+        entry = a;
+        there = there;
+        last = sym (eq-eqb a.references 1 one);
+        updates = updates;
+      };
       stays =
           stays_at cache old new hold.shard shard was is at change
           c.release_standalone.ensures.stays;

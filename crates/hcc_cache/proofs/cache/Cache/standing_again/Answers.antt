@@ -10,6 +10,7 @@ use Rattle.hcc_cache.proofs.Handles.OneMore.{IsGiven}
 use Rattle.hcc_cache.proofs.Basics.SlabSums.{updates_set}
 use Rattle.hcc_cache.proofs.Handles.KnownAfterStandaloneReref.{few_references, knows_standing, rerefs_standing, takes_standing}
 use Rattle.hcc_cache.proofs.Clients.ShownAfterwards.{stays_same}
+use Rattle.hcc_cache.proofs.HandedBack.AloneAfterwards.{alone_changed}
 use Rattle.hcc_cache.proofs.cache.Cache.standing_again.Goals as goal
 
 pub index_mut-requires : goal.index_mut-requires
@@ -78,6 +79,8 @@ returns g c =
           index a b c.requires.held c.requires.kept c.requires.kept refl refl
           c.index_mut.ensures.value same refl updates given seats most seed
           c.keep.ensures.capacities;
+      alone =
+          alone_changed old new most index a b c.index_mut.ensures.value refl updates;
       stays = stays_same cache old new seats;
       counts = λ s. ap (λ l. counts_by (slice_get l s)) seats;
       steps =

@@ -12,6 +12,7 @@ use Rattle.hcc_cache.proofs.Clients.AtOneShard.{ChangesAt, did_at, is_at, only_a
 use Rattle.hcc_cache.proofs.Insertions.KnownAfterInsertion.{IsAsked, frees_at, insertable_at, inserts_at, knows_asked, leaves_stored, stores_at, stores_did, told_as}
 use Rattle.hcc_cache.proofs.Insertions.AnswersTold.{answers_small, answers_unspent, inserts_did, inserts_told}
 use Rattle.hcc_cache.proofs.Clients.ShownAfterwards.{alone_at, knows_shown, was_placed}
+use Rattle.hcc_cache.proofs.HandedBack.AloneAfterwards.{alone_same}
 use Rattle.hcc_cache.proofs.cache.Cache.stored.Goals as goal
 
 pub insert-requires-clause-seat : goal.insert-requires-clause-seat
@@ -127,6 +128,7 @@ returns g c =
           c.key_to-seeded.result.in_shard shown.0 here words shown.1;
       no_spent = rw c.answered.ensures (answers_unspent answer);
       no_large = rw c.answered.ensures small;
+      alone = alone_same old _ change.most changed.alone;
       list = did_at cache old _ i shard was is at change
           (λ z a b. Hands (g.L.FreedList.shelf c.args.list.now)
           (g.L.FreedList.shelf c.insert.new.list) (view_of a) (view_of b)) c.insert.ensures.list

@@ -1,4 +1,4 @@
-use Rattle.std.proofs.Common.{◌≡◌, ◌∙◌, ◌-◌, Some, Ok, Err, length, ap, refl, arith}
+use Rattle.std.proofs.Common.{◌≡◌, ◌∙◌, ◌-◌, Some, Ok, Err, length, ap, refl, subst, arith}
 use Rattle.hcc_rule.specs.declared.steps.shows.Draft.{Draft}
 use Rattle.hcc_shard.specs.declared.inserting.Pinned.TheVariants.{Placed, Standalone}
 use Rattle.hcc_table.specs.Lists.{Hands}
@@ -6,8 +6,10 @@ use Rattle.hcc_charge.specs.Evicted.{turn_room}
 use Rattle.hcc_shard.specs.Callers.{view_of}
 use Rattle.hcc_shard.specs.Inserted.{RefusedBy, with_draft}
 use Rattle.hcc_cache.specs.declared.client.Client.{Client}
+use Rattle.hcc_cache.specs.declared.inserting.Inserted.TheVariants as inserted
 use Rattle.hcc_cache.specs.declared.holding.Alone.{Alone}
 use Rattle.hcc_cache.specs.declared.holding.Kept.TheVariants.{Standing}
+use Rattle.hcc_cache.specs.Alones.{LeavesAlone, bytes_of}
 use Rattle.hcc_cache.specs.Calls.{capacities_of, shard_in}
 use Rattle.hcc_cache.specs.Inserts.{pinned_draft}
 use Rattle.hcc_cache.specs.Sharding.{shard_of}
@@ -18,6 +20,7 @@ use Rattle.hcc_cache.proofs.Insertions.HandleOnInserted.{few_alone, has_room, ho
 use Rattle.hcc_cache.proofs.Insertions.KnownAfterInsertion.{IsAsked, fails_at, frees_at, insertable_at, inserts_at, knows_asked, leaves_refused, leaves_unshown, pins_did, told_as}
 use Rattle.hcc_cache.proofs.Insertions.AnswersTold.{not_full, not_large, not_spent, refuses_did, refuses_told}
 use Rattle.hcc_cache.proofs.Clients.ShownAfterwards.{alone_at, knows_shown}
+use Rattle.hcc_cache.proofs.HandedBack.AloneAfterwards.{alone_more, alone_same}
 use Rattle.hcc_cache.proofs.cache.Cache.stored_pinned.Goals as goal
 
 pub insert_pinned-requires-clause-seat : goal.insert_pinned-requires-clause-seat
@@ -86,7 +89,7 @@ returns-in-Ok-Placed g c =
     let words = c.key_to-seeded.ensures.words in
     let shards = length cache.shards.items in
     let here = c.shard_number-shard.ensures.value ∙ ap (λ k. shard_of k shards) words in
-    let value = g.V.Standing.bytes c.args.value in
+    let value = bytes_of (g.V.Standing.value c.args.value) in
     let asked = pinned_draft cache c.args.key c.args.charge c.args.priority value old in
     let draft : Draft = record {
       key = c.key_to-seeded.result.in_shard;
@@ -151,6 +154,7 @@ returns-in-Ok-Placed g c =
             c.args.priority here had has draft same (Ok c.in-Ok-Placed.field-0) (Ok (Placed pin))
             (ap Ok c.in-Ok-Placed.field-0-is) c.in-Ok-Placed.ensures.evicts,
       );
+      alone = alone_same old new change.most alone;
       shown = λ one placed.
           knows_shown cache old new i shard was is at change c.args.key
           c.key_to-seeded.result.in_shard pin.slot here words
@@ -182,7 +186,7 @@ returns-in-Ok-Standalone g c =
     let words = c.key_to-seeded.ensures.words in
     let shards = length cache.shards.items in
     let here = c.shard_number-shard.ensures.value ∙ ap (λ k. shard_of k shards) words in
-    let value = g.V.Standing.bytes c.args.value in
+    let value = bytes_of (g.V.Standing.value c.args.value) in
     let asked = pinned_draft cache c.args.key c.args.charge c.args.priority value old in
     let draft : Draft = record {
       key = c.key_to-seeded.result.in_shard;
@@ -255,12 +259,14 @@ returns-in-Ok-Standalone g c =
           stands_at cache old new i shard was is at change c.insert_pinned.ensures.seat
           c.keep_alone-handle.result c.args.key (Standing kept.0) given c.requires.free.0
           c.args.charge c.args.priority value here had has kept.0 alone refl refl
-          c.into_value.ensures left.tried joined
+          (ap bytes_of c.into_value.ensures) left.tried joined
           told;
       evicts =
           pins_did cache old new i shard was is at change g.T.Tag.fits c.args.key c.args.charge
           c.args.priority here had has draft same (Ok c.in-Ok-Standalone.field-0) (Ok Standalone)
           (ap Ok c.in-Ok-Standalone.field-0-is) c.in-Ok-Standalone.ensures.evicts;
+      alone = subst (λ v. LeavesAlone v inserted.Standalone old new) c.into_value.ensures
+          (alone_more old new change.most kept.0 alone kept.1 kept.2);
       shown = λ one placed. cc;
       list = did_at cache old new i shard was is at change
           (λ z a b. Hands (g.L.FreedList.shelf c.args.list.now)
@@ -288,7 +294,7 @@ returns-in-Err g c =
     let words = c.key_to-seeded.ensures.words in
     let shards = length cache.shards.items in
     let here = c.shard_number-shard.ensures.value ∙ ap (λ k. shard_of k shards) words in
-    let value = g.V.Standing.bytes c.args.value in
+    let value = bytes_of (g.V.Standing.value c.args.value) in
     let asked = pinned_draft cache c.args.key c.args.charge c.args.priority value old in
     let draft : Draft = record {
       key = c.key_to-seeded.result.in_shard;
@@ -352,6 +358,7 @@ returns-in-Err g c =
           (pins_did cache old new i shard was is at change g.T.Tag.fits c.args.key c.args.charge
           c.args.priority here had has draft same (Err why) (Err why) refl
           c.in-Err.ensures.evicts));
+      alone = alone_same old new change.most changed.alone;
       shown = λ one. tt;
       list = did_at cache old new i shard was is at change
           (λ z a b. Hands (g.L.FreedList.shelf c.args.list.now)

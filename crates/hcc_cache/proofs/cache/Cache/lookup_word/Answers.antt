@@ -1,0 +1,266 @@
+use Rattle.std.proofs.Common.{◌≡◌, ◌∙◌, ◌+◌, ◌-◌, ◌*◌, ◌<◌, length, ap, refl, subst, sym, arith}
+use Rattle.std.specs.Vec.{with_item}
+use Rattle.hcc_rule.specs.declared.geometry.Geometry.{Geometry}
+use Rattle.hcc_rule.specs.declared.view.Record.{Record}
+use Rattle.hcc_rule.specs.Words.{payload_word}
+use Rattle.hcc_table.proofs.Probes.{found_held}
+use Rattle.hcc_shard.specs.Callers.{geometry_of, view_of}
+use Rattle.hcc_shard.proofs.Gettings.{got_pinned}
+use Rattle.hcc_shard.proofs.Names.{not_held}
+use Rattle.hcc_cache.specs.declared.client.Client.{Client}
+use Rattle.hcc_cache.specs.declared.holding.Hold.{Hold}
+use Rattle.hcc_cache.specs.Keys.{fits_seeded}
+use Rattle.hcc_cache.specs.Sharding.{shard_of}
+use Rattle.hcc_cache.proofs.Clients.AtOneShard.{ChangesAt, few_at, is_at, next_at, seated_at, takes_at}
+use Rattle.hcc_cache.proofs.HandedBack.AloneAfterwards.{alone_same}
+use Rattle.hcc_cache.proofs.Searches.KnownAfterLookup.{finds, finds_it, knows_more, knows_sought, looks_at, misses}
+use Rattle.hcc_cache.proofs.Handles.OneMore.{IsGiven}
+use Rattle.hcc_cache.proofs.cache.Cache.lookup_word.Goals as goal
+
+pub lookup-requires-clause-seat : goal.lookup-requires-clause-seat
+lookup-requires-clause-seat g c =
+    let cache = c.args.self.now in
+    let old = c.args.client.now in
+    let i = c.shard_number-number.result in
+    let shard = c.index-shard.result.now in
+    let was = c.index_mut-seat.result.now in
+    let at = is_at cache old i shard was c.requires.known c.shard_number-number.ensures.inside
+    c.index-shard.ensures c.index_mut-seat.ensures.value in
+    (seated_at cache old old i shard was was at).rests
+
+pub lookup-requires-clause-serial : goal.lookup-requires-clause-serial
+lookup-requires-clause-serial g c =
+    let cache = c.args.self.now in
+    let old = c.args.client.now in
+    let i = c.shard_number-number.result in
+    let shard = c.index-shard.result.now in
+    let was = c.index_mut-seat.result.now in
+    let at = is_at cache old i shard was c.requires.known c.shard_number-number.ensures.inside
+    c.index-shard.ensures c.index_mut-seat.ensures.value in
+    next_at cache old old i shard was was at c.in_ok-may_hold.ensures.free.1
+
+pub lookup-requires-clause-few : goal.lookup-requires-clause-few
+lookup-requires-clause-few g c =
+    let cache = c.args.self.now in
+    let old = c.args.client.now in
+    let i = c.shard_number-number.result in
+    let shard = c.index-shard.result.now in
+    let was = c.index_mut-seat.result.now in
+    let at = is_at cache old i shard was c.requires.known c.shard_number-number.ensures.inside
+    c.index-shard.ensures c.index_mut-seat.ensures.value in
+    few_at cache old old i shard was was at c.in_ok-may_hold.ensures.free.0
+
+pub returns-in_default-clause-known : goal.returns-in_default-clause-known
+returns-in_default-clause-known g c =
+    let cache = c.args.self.now in
+    let old = c.args.client.now in
+    let i = c.shard_number-number.result in
+    let shard = c.index-shard.result.now in
+    let was = c.index_mut-seat.result.now in
+    let is = c.lookup.new.seat in
+    let at = is_at cache old i shard was c.requires.known c.shard_number-number.ensures.inside
+    c.index-shard.ensures c.index_mut-seat.ensures.value in
+    knows_sought cache old _ i shard was is at
+    (record { seats = refl; number = refl; most = refl; seed = refl; capacities = refl })
+    (record { handles = refl; alone = refl; held = refl; uses = (refl, refl) })
+    c.lookup.ensures.seat c.in_default.ensures.missed.sought
+
+pub returns-in_default-clause-missed : goal.returns-in_default-clause-missed
+returns-in_default-clause-missed g c =
+    let cache = c.args.self.now in
+    let old = c.args.client.now in
+    let i = c.shard_number-number.result in
+    let shard = c.index-shard.result.now in
+    let was = c.index_mut-seat.result.now in
+    let is = c.lookup.new.seat in
+    let at = is_at cache old i shard was c.requires.known c.shard_number-number.ensures.inside
+    c.index-shard.ensures c.index_mut-seat.ensures.value in
+    let words = c.key_to-seeded.ensures.words in
+    let shards = length cache.shards.items in
+    misses cache old _ i shard was is at
+    (record { seats = refl; number = refl; most = refl; seed = refl; capacities = refl })
+    c.args.key
+    (record { handles = refl; alone = refl; held = refl; uses = (refl, refl) })
+    (c.shard_number-number.ensures.value ∙ ap (λ k. shard_of k shards) words)
+    (rw words at c.in_default.ensures.missed)
+
+pub returns-in_default-clause-steps : goal.returns-in_default-clause-steps
+returns-in_default-clause-steps g c =
+    let cache = c.args.self.now in
+    let old = c.args.client.now in
+    let i = c.shard_number-number.result in
+    let shard = c.index-shard.result.now in
+    let was = c.index_mut-seat.result.now in
+    let is = c.lookup.new.seat in
+    let at = is_at cache old i shard was c.requires.known c.shard_number-number.ensures.inside
+    c.index-shard.ensures c.index_mut-seat.ensures.value in
+    let few = looks_at cache old (record old { seats = with_item old.seats i is }) i shard was is at
+    (record { seats = refl; number = refl; most = refl; seed = refl; capacities = refl })
+    was.effort is.effort c.lookup.ensures.steps in
+    omega (arith, few)
+
+pub first_word-word-requires-clause-holds : goal.first_word-word-requires-clause-holds
+first_word-word-requires-clause-holds g c =
+    let cache = c.args.self.now in
+    let old = c.args.client.now in
+    let i = c.shard_number-number.result in
+    let shard = c.index-shard.result.now in
+    let was = c.index_mut-seat.result.now in
+    let at = is_at cache old i shard was c.requires.known c.shard_number-number.ensures.inside
+    c.index-shard.ensures c.index_mut-seat.ensures.value in
+    let pin = c.in-Some.pin in
+    let told = c.in-Some.ensures.found in
+    let fresh = not_held old.used old.used (omega arith) (view_of was).records
+    (seated_at cache old old i shard was was at).records in
+    got_pinned (fits_seeded g.T.Tag.fits) (geometry_of shard).room old.used pin
+    c.key_to-seeded.result.in_shard (view_of was) (view_of c.lookup.new.seat) told.0 fresh told.1
+    c.in-Some.ensures.pin.1 told.2.2
+
+pub returns-clause-known : goal.returns-clause-known
+returns-clause-known g c =
+    let cache = c.args.self.now in
+    let old = c.args.client.now in
+    let new = c.keep.new.self in
+    let i = c.shard_number-number.result in
+    let shard = c.index-shard.result.now in
+    let was = c.index_mut-seat.result.now in
+    let is = c.first_word-word.new.seat in
+    let at = is_at cache old i shard was c.requires.known c.shard_number-number.ensures.inside
+    c.index-shard.ensures c.index_mut-seat.ensures.value in
+    let rest = c.keep.ensures.rest in
+    let change : ChangesAt old new i is = record {
+      seats = ap (λ (x : Client g.row.T.Denot). x.seats.items) rest;
+      number = ap (λ (x : Client g.row.T.Denot). x.number) rest;
+      most = ap (λ (x : Client g.row.T.Denot). x.most) rest;
+      seed = ap (λ (x : Client g.row.T.Denot). x.seed) rest;
+      capacities = c.keep.ensures.capacities;
+    } in
+    let words = c.key_to-seeded.ensures.words in
+    let shards = length cache.shards.items in
+    let told = c.in-Some.ensures.found in
+    let found = rw (← c.first_word-word.ensures.view) at told.1 in
+    let pin = c.in-Some.pin in
+    let left : new.left ≡ old.left - 1 = ap (λ (x : Client g.row.T.Denot). x.left) rest in
+    let some = c.in_ok-may_hold.ensures.free.1 in
+    let hold : Hold = record {
+      serial = old.used;
+      key = c.args.key;
+      shard = i;
+      kept = c.pinned.result;
+    } in
+    let alone = ap (λ (x : Client g.row.T.Denot). x.alone) rest in
+    let given : IsGiven old new c.keep.result hold = record {
+      client = c.keep.ensures.client;
+      serial = c.keep.ensures.serial;
+      named = refl;
+      number = change.number;
+      free = c.keep.ensures.was_free;
+      updates = c.keep.ensures.kept;
+      count = c.keep.ensures.count;
+      held = ap (λ (x : Client g.row.T.Denot). x.held) rest;
+      uses = (ap (λ (x : Client g.row.T.Denot). x.used) rest, omega arith);
+    } in
+    knows_more cache old new i shard was is at change c.keep.result hold pin.slot pin.counting
+    told.0 given alone refl c.pinned.ensures found.searched found.records found.called told.2
+    (found.asked ∙ words)
+    (rw (c.requires.known.seated.count)
+    (c.shard_number-number.ensures.value ∙ ap (λ k. shard_of k shards) words))
+    found.small c.first_word-word.ensures.seat c.in_ok-may_hold.ensures.free.0
+
+pub returns-clause-found : goal.returns-clause-found
+returns-clause-found g c =
+    let cache = c.args.self.now in
+    let old = c.args.client.now in
+    let new = c.keep.new.self in
+    let i = c.shard_number-number.result in
+    let shard = c.index-shard.result.now in
+    let was = c.index_mut-seat.result.now in
+    let is = c.first_word-word.new.seat in
+    let at = is_at cache old i shard was c.requires.known c.shard_number-number.ensures.inside
+    c.index-shard.ensures c.index_mut-seat.ensures.value in
+    let rest = c.keep.ensures.rest in
+    let change : ChangesAt old new i is = record {
+      seats = ap (λ (x : Client g.row.T.Denot). x.seats.items) rest;
+      number = ap (λ (x : Client g.row.T.Denot). x.number) rest;
+      most = ap (λ (x : Client g.row.T.Denot). x.most) rest;
+      seed = ap (λ (x : Client g.row.T.Denot). x.seed) rest;
+      capacities = c.keep.ensures.capacities;
+    } in
+    let words = c.key_to-seeded.ensures.words in
+    let shards = length cache.shards.items in
+    let told = c.in-Some.ensures.found in
+    let found = rw (← c.first_word-word.ensures.view) at told.1 in
+    let pin = c.in-Some.pin in
+    let left : new.left ≡ old.left - 1 = ap (λ (x : Client g.row.T.Denot). x.left) rest in
+    let some = c.in_ok-may_hold.ensures.free.1 in
+    let hold : Hold = record {
+      serial = old.used;
+      key = c.args.key;
+      shard = i;
+      kept = c.pinned.result;
+    } in
+    let alone = ap (λ (x : Client g.row.T.Denot). x.alone) rest in
+    let given : IsGiven old new c.keep.result hold = record {
+      client = c.keep.ensures.client;
+      serial = c.keep.ensures.serial;
+      named = refl;
+      number = change.number;
+      free = c.keep.ensures.was_free;
+      updates = c.keep.ensures.kept;
+      count = c.keep.ensures.count;
+      held = ap (λ (x : Client g.row.T.Denot). x.held) rest;
+      uses = (ap (λ (x : Client g.row.T.Denot). x.used) rest, omega arith);
+    } in
+    let here = c.shard_number-number.ensures.value ∙ ap (λ k. shard_of k shards) words in
+    let undone = rw words at c.key_to-seeded.ensures.undone in
+    let asked = rw words at found in
+    let all = finds cache old new i shard was is at change c.keep.result hold pin.slot pin.counting
+    told.0 given alone refl c.pinned.ensures found.searched found.records found.called told.2
+    (found.asked ∙ words) g.T.Tag.fits c.args.key here undone asked in
+    let it = finds_it cache old new i shard was is at change c.keep.result hold pin.slot
+    pin.counting told.0 given alone refl c.pinned.ensures found.searched found.records found.called
+    told.2 (found.asked ∙ words) g.T.Tag.fits c.args.key here undone asked in
+    let fresh = not_held old.used old.used (omega arith) (view_of was).records
+    (seated_at cache old old i shard was was at).records in
+    let there = found_held (fits_seeded g.T.Tag.fits) (geometry_of shard).room pin.slot old.used
+    c.key_to-seeded.result.in_shard (view_of was) (view_of c.lookup.new.seat) told.0 fresh told.1 in
+    let exact = rw (c.in-Some.ensures.pin.1, there) at c.first_word-word.ensures.exact in (
+      all,
+      subst (λ (r : Record). 0 < length r.entry.value
+          → c.first_word-word.result ≡ payload_word r.entry.value 0) (sym it) exact
+          (c.requires.words c.args.key all.found.entry.value all.right),
+    )
+
+pub returns-clause-alone : goal.returns-clause-alone
+returns-clause-alone g c =
+    let rest = c.keep.ensures.rest in
+    alone_same c.args.client.now c.keep.new.self (ap (λ (x : Client g.row.T.Denot). x.most) rest)
+    (ap (λ (x : Client g.row.T.Denot). x.alone) rest)
+
+pub returns-clause-steps : goal.returns-clause-steps
+returns-clause-steps g c =
+    let cache = c.args.self.now in
+    let old = c.args.client.now in
+    let new = c.keep.new.self in
+    let i = c.shard_number-number.result in
+    let shard = c.index-shard.result.now in
+    let was = c.index_mut-seat.result.now in
+    let is = c.first_word-word.new.seat in
+    let at = is_at cache old i shard was c.requires.known c.shard_number-number.ensures.inside
+    c.index-shard.ensures c.index_mut-seat.ensures.value in
+    let rest = c.keep.ensures.rest in
+    let change : ChangesAt old new i is = record {
+      seats = ap (λ (x : Client g.row.T.Denot). x.seats.items) rest;
+      number = ap (λ (x : Client g.row.T.Denot). x.number) rest;
+      most = ap (λ (x : Client g.row.T.Denot). x.most) rest;
+      seed = ap (λ (x : Client g.row.T.Denot). x.seed) rest;
+      capacities = c.keep.ensures.capacities;
+    } in
+    let alike = at.knows.alike.plans i shard at.shard_is in
+    let slots : (geometry_of shard).slots ≡ cache.geometry.slots =
+    ap (λ (y : Geometry). y.slots) alike.0 in
+    let makes = c.lookup.ensures.steps in
+    let within = makes.within in
+    let steps = makes.steps in
+    let one = c.first_word-word.ensures.steps in
+    takes_at cache old new i shard was is at change (7 * cache.geometry.slots + 1) (omega arith)

@@ -1,0 +1,9 @@
+use Rattle.std.proofs.Common.{subst}
+use Rattle.hcc_cache.specs.declared.object_cache.ObjectCache.{ObjectCache}
+use Rattle.hcc_cache.proofs.HandedBack.NewClients.{opened_for}
+use Rattle.hcc_cache.proofs.object_cache.ObjectCache.opened.Goals as goal
+
+pub returns : goal.returns
+returns c =
+    opened_for c.args.config _ c.in_ok-cache.clients.items c.in_ok-clients.clients.items
+    (rw c.plain.ensures at c.in_ok-cache.ensures.made) c.in_ok-clients.ensures

@@ -1,0 +1,251 @@
+//! Objects: what each call answers, and what is handed back.
+ghost use Rattle.hcc_cache.specs.Objects.{KnowsObjects};
+
+use hcc_cache::{
+    Handle, Key, Object, ObjectCache, ObjectClient, ObjectCloseError, ObjectConfig, ObjectError,
+    ObjectsLeft, Placing, Priority,
+};
+use std::alloc::Global;
+use std::process::Abort;
+
+/// A cache of one shard and one client, whose list takes four entries.
+const SMALL: ObjectConfig = ObjectConfig {
+    slots: 8,
+    clients: 1,
+    handles: 2,
+    gone: 4,
+    shards: 1,
+    capacity: 600,
+    strict: false,
+    marks: false,
+    serials: 1_000,
+    seed: 7,
+};
+
+fn key(number: u64) -> Key {
+    Key { w0: number, w1: 0 }
+}
+
+fn object(number: u16) -> Object {
+    Object {
+        address: 0x7fff_0000_0000 + 64 * number as u64,
+        kind: number,
+    }
+}
+
+/// A new cache, its client, and where it was.
+fn begins(rt: &impl Abort, alloc: Global) -> (ObjectCache, ObjectClient, Vec<ObjectClient>)
+    ensures { KnowsObjects result.0 result.1 }
+{
+    let Ok((cache, mut clients)) = ObjectCache::new(alloc, SMALL) else {
+        panic!(rt; "no cache is made")
+    };
+    let Some(me) = clients.pop() else {
+        panic!(rt; "there is no client")
+    };
+    (cache, me, clients)
+}
+
+/// The newest object on the client's list.
+fn taken(cache: &ObjectCache, client: &mut ObjectClient) -> Option<(Key, Object)>
+    requires { KnowsObjects cache.now client.old }
+    ensures { KnowsObjects cache.now client.new }
+{
+    match cache.take_gone(client) {
+        Some(gone) => Some(gone.take()),
+        None => None,
+    }
+}
+
+/// Gives a handle back that the client holds.
+fn gives_back(
+    rt: &impl Abort,
+    cache: &ObjectCache,
+    client: &mut ObjectClient,
+    handle: Handle,
+) -> bool
+    requires { KnowsObjects cache.now client.old }
+    ensures { KnowsObjects cache.now client.new }
+{
+    assert!(rt; client.client().holds(handle), "the handle is gone");
+    cache.release(client, handle, true, false)
+}
+
+/// An entry that was erased while it was held comes back with its last handle, and no earlier.
+#[test]
+fn an_object_comes_back_with_its_last_handle(rt: HostRuntime) {
+    let (cache, mut me, _clients) = begins(&rt, rt.alloc());
+    let placed = cache.insert(&mut me, key(1), object(9), 10, Priority::Low);
+    assert_eq!(rt; placed, Ok(Placing::Placed));
+    let Ok(Some((handle, found))) = cache.lookup(&mut me, key(1)) else {
+        panic!(rt; "the object isn't found")
+    };
+    assert_eq!(rt; found, object(9));
+    assert_eq!(rt; cache.erase(&mut me, key(1)), 1);
+    assert_eq!(rt; taken(&cache, &mut me), None);
+    assert!(rt;
+        gives_back(&rt, &cache, &mut me, handle),
+        "nothing was freed"
+    );
+    assert_eq!(rt; taken(&cache, &mut me), Some((key(1), object(9))));
+    assert_eq!(rt; taken(&cache, &mut me), None);
+}
+
+/// Where the list is full an insertion makes no turn of the hand, and says so; with an empty one it
+/// is placed.
+#[test]
+fn a_full_list_is_told_of(rt: HostRuntime) {
+    let (cache, mut me, _clients) = begins(&rt, rt.alloc());
+    for number in 0u16..6 {
+        let placed = cache.insert(
+            &mut me,
+            key(number as u64),
+            object(number),
+            1,
+            Priority::Bottom,
+        );
+        assert_eq!(rt; placed, Ok(Placing::Placed));
+    }
+    assert_eq!(rt; cache.erase(&mut me, key(0)), 1);
+    for number in 6u16..8 {
+        let placed = cache.insert(
+            &mut me,
+            key(number as u64),
+            object(number),
+            1,
+            Priority::Bottom,
+        );
+        let want = if number == 6 {
+            Placing::Placed
+        } else {
+            Placing::Dropped { list_full: true }
+        };
+        assert_eq!(rt; placed, Ok(want));
+    }
+    assert_eq!(rt; taken(&cache, &mut me), Some((key(0), object(0))));
+    let placed = cache.insert(&mut me, key(7), object(7), 1, Priority::Bottom);
+    assert_eq!(rt; placed, Ok(Placing::Placed));
+}
+
+/// Where no place is found an object stands alone until its last handle is released, and goes onto
+/// the list then, which has a place for it; where none is left no such insertion is begun.
+#[test]
+fn an_object_that_stands_alone_comes_back(rt: HostRuntime) {
+    let (cache, mut me, _clients) = begins(&rt, rt.alloc());
+    for number in 0u16..6 {
+        let placed = cache.insert(
+            &mut me,
+            key(number as u64),
+            object(number),
+            1,
+            Priority::Bottom,
+        );
+        assert_eq!(rt; placed, Ok(Placing::Placed));
+    }
+    assert_eq!(rt; cache.erase(&mut me, key(0)), 1);
+    let placed = cache.insert(&mut me, key(6), object(6), 1, Priority::Bottom);
+    assert_eq!(rt; placed, Ok(Placing::Placed));
+    for number in 7u16..12 {
+        let stood = cache.insert_pinned(&mut me, key(7), object(number), 1, Priority::Bottom);
+        let Ok((handle, Placing::Standalone { list_full: true })) = stood else {
+            panic!(rt; "it doesn't stand alone")
+        };
+        assert_eq!(rt; cache.lookup(&mut me, key(7)), Ok(None));
+        assert!(rt; me.client().holds(handle), "the handle is gone");
+        let Ok(more) = cache.reref(&mut me, handle) else {
+            panic!(rt; "no handle more is given")
+        };
+        assert!(rt;
+            !gives_back(&rt, &cache, &mut me, handle),
+            "it went with a handle left"
+        );
+        assert!(rt;
+            gives_back(&rt, &cache, &mut me, more),
+            "it is left with no handle"
+        );
+    }
+    let refused = cache.insert_pinned(&mut me, key(7), object(12), 1, Priority::Bottom);
+    assert_eq!(rt; refused, Err(ObjectError::GoneFull));
+    for number in [11, 10, 9, 8, 7] {
+        assert_eq!(rt; taken(&cache, &mut me), Some((key(7), object(number))));
+    }
+    assert_eq!(rt; taken(&cache, &mut me), Some((key(0), object(0))));
+    assert_eq!(rt; taken(&cache, &mut me), None);
+}
+
+/// What a cache that isn't closed hands back.
+fn refused(
+    rt: &impl Abort,
+    closed: Result<ObjectsLeft, (ObjectCloseError, ObjectCache, Vec<ObjectClient>)>,
+) -> (ObjectCloseError, ObjectCache, Vec<ObjectClient>) {
+    match closed {
+        Ok(left) => stuck(rt, left),
+        Err(back) => back,
+    }
+}
+
+/// A walk that shouldn't be there.
+fn stuck(rt: &impl Abort, left: ObjectsLeft) -> ! {
+    panic!(rt; "a walk is left")
+}
+
+/// A cache is closed once nothing is held and nothing is on a list; its walk hands out the rest.
+#[test]
+fn what_is_left_is_handed_out(rt: HostRuntime) {
+    let (cache, mut me, clients) = begins(&rt, rt.alloc());
+    for number in 0u16..3 {
+        let placed = cache.insert(
+            &mut me,
+            key(number as u64),
+            object(number),
+            1,
+            Priority::High,
+        );
+        assert_eq!(rt; placed, Ok(Placing::Placed));
+    }
+    assert_eq!(rt; cache.erase(&mut me, key(1)), 1);
+    let (why, cache, mut clients) = refused(&rt, cache.close(clients));
+    assert_eq!(rt; why, ObjectCloseError::Missing { have: 0, want: 1 });
+    let Ok(()) = clients.push(me) else {
+        panic!(rt; "there is no room for a client")
+    };
+    let (why, cache, mut clients) = refused(&rt, cache.close(clients));
+    assert_eq!(rt; why, ObjectCloseError::Untaken { client: 0 });
+    let Some(mut me) = clients.pop() else {
+        panic!(rt; "there is no client")
+    };
+    assert_eq!(rt; taken(&cache, &mut me), Some((key(1), object(1))));
+    let Ok(Some((handle, _))) = cache.lookup(&mut me, key(2)) else {
+        panic!(rt; "the object isn't found")
+    };
+    let Ok(()) = clients.push(me) else {
+        panic!(rt; "there is no room for a client")
+    };
+    let (why, cache, mut clients) = refused(&rt, cache.close(clients));
+    assert_eq!(rt; why, ObjectCloseError::HandlesOut { client: 0 });
+    let Some(mut me) = clients.pop() else {
+        panic!(rt; "there is no client")
+    };
+    assert!(rt;
+        !gives_back(&rt, &cache, &mut me, handle),
+        "the entry is gone"
+    );
+    let Ok(()) = clients.push(me) else {
+        panic!(rt; "there is no room for a client")
+    };
+    let mut left = match cache.close(clients) {
+        Ok(left) => left,
+        Err(_) => panic!(rt; "it isn't closed"),
+    };
+    let mut sum = 0;
+    while let Some(gone) = left.next() {
+        let (key, object) = gone.take();
+        assert_eq!(rt; key.w0, object.kind as u64);
+        sum += 1 + key.w0;
+    }
+    assert_eq!(rt; sum, 4);
+    match left.end() {
+        Ok(()) => {}
+        Err(left) => stuck(&rt, left),
+    }
+}
