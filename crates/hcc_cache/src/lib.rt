@@ -23,6 +23,7 @@ mod object_calls;
 mod object_closing;
 mod object_inserting;
 mod object_opening;
+mod object_reading;
 mod objects;
 mod objects_left;
 mod opening;

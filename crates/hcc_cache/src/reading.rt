@@ -1,6 +1,7 @@
 //! What a client reads by its handles.
 ghost use Rattle.std.specs.Prelude.{◌≡◌, ◌+◌, ◌-◌, ◌<◌, ◌≤◌, ◌++◌, Some, IfErr, IfNone, IfOk, IfSome, length, drop};
 ghost use Rattle.hcc_rule.specs.Words.{words_for};
+ghost use Rattle.hcc_cache.specs.Alones.{AreAlone};
 ghost use Rattle.hcc_cache.specs.Calls.{Reads, TakesAtMost};
 ghost use Rattle.hcc_cache.specs.Clients.{held_of, hold_of, Holds};
 ghost use Rattle.hcc_cache.specs.Handles.{handle_of, HoldsNone};
@@ -124,6 +125,27 @@ impl<T: Tag> Cache<T> {
                 self.shards[hold.shard].value_len(seat, pin)
             }
             Err(index) => client.alone[index].value.bytes().len(),
+        }
+    }
+
+    /// What is charged for the entry, by what the client keeps of the handle.
+    pub(crate) fn charge_of(&self, client: &mut Client<T>, handle: Handle, hold: Hold) -> u64
+        requires known { Knows self.now client.old }
+        requires held { hold_of client.old handle ≡ Some hold }
+        ensures known { Knows self.now client.new }
+        ensures reads { Reads self.now client.old client.new }
+        ensures stays { Stays self.now client.old client.new }
+        ensures exact { IfSome (held_of self.now client.old handle) (λ held.
+            result ≡ held.insertion.charge) }
+        ensures standing { AreAlone client.old client.new }
+        ensures steps { TakesAtMost 1 client.old client.new }
+    {
+        match hold.pin() {
+            Ok(pin) => {
+                let seat = &mut client.seats[hold.shard];
+                self.shards[hold.shard].charge(seat, pin)
+            }
+            Err(index) => client.alone[index].charge as u64,
         }
     }
 

@@ -5,6 +5,7 @@ ghost use Rattle.hcc_rule.specs.Looked.{after_look, Backs};
 ghost use Rattle.hcc_rule.specs.ToldTrails.{passed_held};
 ghost use Rattle.hcc_shard.specs.Callers.{LoadsDisplacement, LoadsOccupancy, LoadsWord};
 ghost use Rattle.hcc_shard.specs.Counted.{LoadsUsage};
+ghost use Rattle.hcc_cache.specs.Alones.{AreAlone};
 ghost use Rattle.hcc_cache.specs.Calls.{AtShard, CountsNone, KeepsAll, OnlyAt, Reads, TakesAtMost, Works};
 ghost use Rattle.hcc_cache.specs.Clients.{view_at};
 ghost use Rattle.hcc_cache.specs.Known.{Knows};
@@ -36,6 +37,7 @@ impl<T: Tag> Cache<T> {
         ensures strict { self.now.strict ≡ true
             → result ≤ length self.now.shards.items * self.now.capacity }
         ensures counts { CountsNone client.old client.new }
+        ensures standing { AreAlone client.old client.new }
         ensures steps { TakesAtMost (length self.now.shards.items) client.old client.new }
     {
         let mut sum: u64 = 0;
@@ -59,6 +61,7 @@ impl<T: Tag> Cache<T> {
         ensures loads { AtShard self.now (λ at was is. LoadsUsage at result was is) shard
             client.old client.new }
         ensures others { OnlyAt shard client.old client.new }
+        ensures standing { AreAlone client.old client.new }
         ensures steps { TakesAtMost 1 client.old client.new }
     {
         let seat = &mut client.seats[shard];
@@ -81,6 +84,7 @@ impl<T: Tag> Cache<T> {
             → result ≡ charge_by client.old }
         ensures loads { CountsEach self.now T.fits result client.old client.new }
         ensures stays { Stays self.now client.old client.new }
+        ensures standing { AreAlone client.old client.new }
         ensures steps { TakesAtMost
             (length self.now.shards.items * (5 * self.now.geometry.slots + 1))
             client.old client.new }
@@ -108,6 +112,7 @@ impl<T: Tag> Cache<T> {
             shard client.old client.new }
         ensures stays { Stays self.now client.old client.new }
         ensures others { OnlyAt shard client.old client.new }
+        ensures standing { AreAlone client.old client.new }
         ensures steps { TakesAtMost (5 * self.now.geometry.slots + 1) client.old client.new }
     {
         let seat = &mut client.seats[shard];
@@ -131,6 +136,7 @@ impl<T: Tag> Cache<T> {
         ensures high { result ≤ length self.now.shards.items
             * (self.now.geometry.slots * OCCUPANCY_PERCENT / 100 + self.now.geometry.clients) }
         ensures loads { LoadsEachOccupancy self.now result client.old client.new }
+        ensures standing { AreAlone client.old client.new }
         ensures steps { TakesAtMost (length self.now.shards.items) client.old client.new }
     {
         let mut sum: u64 = 0;
@@ -156,6 +162,7 @@ impl<T: Tag> Cache<T> {
         ensures loads { AtShard self.now (λ at was is. LoadsOccupancy at result was is) shard
             client.old client.new }
         ensures others { OnlyAt shard client.old client.new }
+        ensures standing { AreAlone client.old client.new }
         ensures steps { TakesAtMost 1 client.old client.new }
     {
         let seat = &mut client.seats[shard];

@@ -20,7 +20,10 @@ ghost use Rattle.hcc_shard.specs.Stays.{CountsBy, LooksBy, SeeksAt};
 use crate::seat::ShardSeat;
 use crate::shard::Shard;
 use hcc_rule::{Key, Tag};
-use hcc_table::{Pin, PinAt, copy_bytes, displacement, read_bytes, read_key, read_len, read_word, word};
+use hcc_table::{
+    Pin, PinAt, copy_bytes, displacement, read_bytes, read_charge, read_key, read_len, read_word,
+    word,
+};
 use std::alloc::Allocator;
 
 impl<T: Tag, A: Allocator> Shard<T, A> {
@@ -133,6 +136,25 @@ impl<T: Tag, A: Allocator> Shard<T, A> {
     {
         let data = self.table.data_of(pin.slot);
         read_word(&self.table, &mut seat.seat, PinAt { pin, data }, 0)
+    }
+
+    /// What is charged for the entry of a pin that the client holds.
+    ///
+    /// It refuses nothing and allocates nothing. It costs one load.
+    pub fn charge(&self, seat: &mut ShardSeat<T>, pin: Pin) -> u64
+        requires seat { Rests self.now seat.old }
+        requires slot { IsSlotOf self.now.table pin.slot }
+        requires holds { IsPinned pin (view seat.old.seat) }
+        ensures seat { Rests self.now seat.new }
+        ensures view { view seat.new.seat ≡ view seat.old.seat }
+        ensures exact { IfSome (record_in pin.name (view seat.old.seat).records)
+            (λ r. result ≡ r.entry.charge) }
+        ensures seeks { SeeksAt self.now seat.old seat.new }
+        ensures counts { SameCounts seat.old seat.new }
+        ensures steps { MakesAtMost 1 seat.old.seat seat.new.seat }
+    {
+        let data = self.table.data_of(pin.slot);
+        read_charge(&self.table, &mut seat.seat, PinAt { pin, data })
     }
 
     /// Copies the value of the entry of a pin that the client holds to the front of a buffer, which

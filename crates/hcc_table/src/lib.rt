@@ -89,7 +89,9 @@ pub use lists::{Freed, FreedList, NoList};
 pub use optimistic::{Got, read_optimistic};
 pub use pinning::pinned_charge;
 pub use pins::{IfLast, Pin, PinAt, Use};
-pub use readings::{copy_bytes, displacement, read_bytes, read_key, read_len, read_word, word};
+pub use readings::{
+    copy_bytes, displacement, read_bytes, read_charge, read_key, read_len, read_word, word,
+};
 pub use releasing::{give_back, release};
 pub use search::find;
 pub use visiting::{ClockVisit, visit};

@@ -23,7 +23,7 @@ ghost use Rattle.hcc_table.specs.Seeking.{Seeks};
 ghost use Rattle.hcc_table.specs.Steps.{MakesAtMost};
 
 use crate::pins::{Pin, PinAt};
-use hcc_rule::layout::{KEY0, KEY1, LENGTH, PAYLOAD};
+use hcc_rule::layout::{CHARGE, KEY0, KEY1, LENGTH, PAYLOAD};
 use hcc_rule::{Key, RuleSeat, RuleTable, SlotAt, Tag};
 use std::alloc::Allocator;
 
@@ -113,6 +113,29 @@ pub fn read_len<T: Tag, A: Allocator>(
 {
     let (slot, data) = (held.pin.slot, held.data);
     table.read_at(seat, SlotAt { slot, data }, LENGTH, held.pin.name) as usize
+}
+
+/// The charge of the entry of a pin.
+///
+/// The client holds the pin's reference. What the client has stays. It refuses nothing and
+/// allocates nothing. It costs one load.
+pub fn read_charge<T: Tag, A: Allocator>(
+    table: &RuleTable<T, A>,
+    seat: &mut RuleSeat<T>,
+    held: PinAt,
+) -> u64
+    requires seat { IsSeatAt table.now seat.old }
+    requires held { IsPinAt table.now held }
+    requires holds { IsPinned held.pin (view seat.old) }
+    ensures seat { IsSameSeat seat.old seat.new }
+    ensures view { view seat.new ≡ view seat.old }
+    ensures exact { IfSome (record_in held.pin.name (view seat.old).records)
+        (λ r. result ≡ r.entry.charge) }
+    ensures seeks { Seeks table.now seat.old seat.new }
+    ensures steps { MakesAtMost 1 seat.old seat.new }
+{
+    let (slot, data) = (held.pin.slot, held.data);
+    table.read_at(seat, SlotAt { slot, data }, CHARGE, held.pin.name)
 }
 
 /// The key of the entry of a pin.

@@ -8,6 +8,17 @@ use Rattle.hcc_cache.specs.Alones.{AreAlone, LessAlone, MoreAlone}
 use Rattle.hcc_cache.proofs.Basics.SlabSums.{len_updated, one_of}
 use Rattle.hcc_cache.proofs.Handles.SameHolds.{freed_is, stood_there, written_is}
 
+-- after two calls that left them
+pub alone_then : {T : Type 0} (a b c : Client T) → AreAlone a b → AreAlone b c → AreAlone a c
+alone_then a b c first next = record {
+  most = next.most ∙ first.most;
+  count = next.count ∙ first.count;
+  each = λ index x there.
+      let was = next.each index x there in
+      let before = first.each index was.0 was.1 in
+      (before.0, before.1, was.2 ∙ before.2);
+}
+
 module _ {T : Type 0} (old new : Client T) (most : new.most ≡ old.most) where
   -- none changed
   pub alone_same : new.alone ≡ old.alone → AreAlone old new

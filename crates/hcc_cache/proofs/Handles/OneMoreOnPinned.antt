@@ -119,13 +119,19 @@ module _ {T : Type 0} {cache : Cache T} {client : Client T} {hold : Hold} {pin :
       (ap (option_map (λ (q : Record). held_entry cache.seed q.entry)) pin_at.known
       ∙ ap (λ e. Some (held_entry cache.seed e)) (sym same))
 
-  -- what is told of its record's value is told of its own
+  -- what is told of its record's value and charge is told of its own
+  pub told_of_both : (P : (value : List ℕ) → (charge : ℕ) → Type 0)
+      → IfSome (record_in pin.name (view_of was).records) (λ r. P r.entry.value r.entry.charge)
+      → IfSome (held_of cache client handle) (λ h. P h.insertion.value h.insertion.charge)
+  told_of_both P told =
+      let here : P pin_at.handled.entry.value pin_at.handled.entry.charge =
+      rw (pinned.name, pin_at.there) at told in
+      rw (held_at pin_at.handled refl) here
+
   pub told_of : (P : List ℕ → Type 0)
       → IfSome (record_in pin.name (view_of was).records) (λ r. P r.entry.value)
       → IfSome (held_of cache client handle) (λ h. P h.insertion.value)
-  told_of P told =
-      let here : P pin_at.handled.entry.value = rw (pinned.name, pin_at.there) at told in
-      rw (held_at pin_at.handled refl) here
+  told_of P told = told_of_both (λ value charge. P value) told
 
   -- and back
   pub told_back : (P : List ℕ → Type 0)

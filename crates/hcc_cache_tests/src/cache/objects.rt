@@ -1,4 +1,5 @@
 //! Objects: what each call answers, and what is handed back.
+ghost use Rattle.std.specs.Prelude.{◌≡◌, ◌∷◌, [], Err};
 ghost use Rattle.hcc_cache.specs.Objects.{KnowsObjects};
 
 use hcc_cache::{
@@ -33,8 +34,8 @@ fn object(number: u16) -> Object {
     }
 }
 
-/// A new cache, its client, and where it was.
-fn begins(rt: &impl Abort, alloc: Global) -> (ObjectCache, ObjectClient, Vec<ObjectClient>)
+/// A new cache, and its client.
+fn begins(rt: &impl Abort, alloc: Global) -> (ObjectCache, ObjectClient)
     ensures { KnowsObjects result.0 result.1 }
 {
     let Ok((cache, mut clients)) = ObjectCache::new(alloc, SMALL) else {
@@ -43,7 +44,7 @@ fn begins(rt: &impl Abort, alloc: Global) -> (ObjectCache, ObjectClient, Vec<Obj
     let Some(me) = clients.pop() else {
         panic!(rt; "there is no client")
     };
-    (cache, me, clients)
+    (cache, me)
 }
 
 /// The newest object on the client's list.
@@ -74,7 +75,7 @@ fn gives_back(
 /// An entry that was erased while it was held comes back with its last handle, and no earlier.
 #[test]
 fn an_object_comes_back_with_its_last_handle(rt: HostRuntime) {
-    let (cache, mut me, _clients) = begins(&rt, rt.alloc());
+    let (cache, mut me) = begins(&rt, rt.alloc());
     let placed = cache.insert(&mut me, key(1), object(9), 10, Priority::Low);
     assert_eq!(rt; placed, Ok(Placing::Placed));
     let Ok(Some((handle, found))) = cache.lookup(&mut me, key(1)) else {
@@ -95,7 +96,7 @@ fn an_object_comes_back_with_its_last_handle(rt: HostRuntime) {
 /// is placed.
 #[test]
 fn a_full_list_is_told_of(rt: HostRuntime) {
-    let (cache, mut me, _clients) = begins(&rt, rt.alloc());
+    let (cache, mut me) = begins(&rt, rt.alloc());
     for number in 0u16..6 {
         let placed = cache.insert(
             &mut me,
@@ -131,7 +132,7 @@ fn a_full_list_is_told_of(rt: HostRuntime) {
 /// the list then, which has a place for it; where none is left no such insertion is begun.
 #[test]
 fn an_object_that_stands_alone_comes_back(rt: HostRuntime) {
-    let (cache, mut me, _clients) = begins(&rt, rt.alloc());
+    let (cache, mut me) = begins(&rt, rt.alloc());
     for number in 0u16..6 {
         let placed = cache.insert(
             &mut me,
@@ -173,11 +174,24 @@ fn an_object_that_stands_alone_comes_back(rt: HostRuntime) {
     assert_eq!(rt; taken(&cache, &mut me), None);
 }
 
-/// What a cache that isn't closed hands back.
+/// A client by itself.
+fn alone(rt: &impl Abort, alloc: Global, me: ObjectClient) -> Vec<ObjectClient>
+    ensures { result.items ≡ me ∷ [] }
+{
+    let mut clients = Vec::new(alloc);
+    let Ok(()) = clients.push(me) else {
+        panic!(rt; "there is no memory")
+    };
+    clients
+}
+
+/// Why a cache isn't closed, and what is handed back.
 fn refused(
     rt: &impl Abort,
     closed: Result<ObjectsLeft, (ObjectCloseError, ObjectCache, Vec<ObjectClient>)>,
-) -> (ObjectCloseError, ObjectCache, Vec<ObjectClient>) {
+) -> (ObjectCloseError, ObjectCache, Vec<ObjectClient>)
+    ensures { closed ≡ Err result }
+{
     match closed {
         Ok(left) => stuck(rt, left),
         Err(back) => back,
@@ -189,10 +203,29 @@ fn stuck(rt: &impl Abort, left: ObjectsLeft) -> ! {
     panic!(rt; "a walk is left")
 }
 
+/// Why a cache isn't closed by its client.
+fn stays_open(
+    rt: &impl Abort,
+    alloc: Global,
+    cache: ObjectCache,
+    me: ObjectClient,
+) -> (ObjectCloseError, ObjectCache, ObjectClient)
+    requires { KnowsObjects cache me }
+    ensures { KnowsObjects result.1 result.2 }
+{
+    let clients = alone(rt, alloc, me);
+    let (why, cache, mut clients) = refused(rt, cache.close(clients));
+    let Some(me) = clients.pop() else {
+        panic!(rt; "there is no client")
+    };
+    (why, cache, me)
+}
+
 /// A cache is closed once nothing is held and nothing is on a list; its walk hands out the rest.
 #[test]
 fn what_is_left_is_handed_out(rt: HostRuntime) {
-    let (cache, mut me, clients) = begins(&rt, rt.alloc());
+    let alloc = rt.alloc();
+    let (cache, mut me) = begins(&rt, alloc);
     for number in 0u16..3 {
         let placed = cache.insert(
             &mut me,
@@ -204,36 +237,21 @@ fn what_is_left_is_handed_out(rt: HostRuntime) {
         assert_eq!(rt; placed, Ok(Placing::Placed));
     }
     assert_eq!(rt; cache.erase(&mut me, key(1)), 1);
-    let (why, cache, mut clients) = refused(&rt, cache.close(clients));
+    let (why, cache, _) = refused(&rt, cache.close(Vec::new(alloc)));
     assert_eq!(rt; why, ObjectCloseError::Missing { have: 0, want: 1 });
-    let Ok(()) = clients.push(me) else {
-        panic!(rt; "there is no room for a client")
-    };
-    let (why, cache, mut clients) = refused(&rt, cache.close(clients));
+    let (why, cache, mut me) = stays_open(&rt, alloc, cache, me);
     assert_eq!(rt; why, ObjectCloseError::Untaken { client: 0 });
-    let Some(mut me) = clients.pop() else {
-        panic!(rt; "there is no client")
-    };
-    assert_eq!(rt; taken(&cache, &mut me), Some((key(1), object(1))));
     let Ok(Some((handle, _))) = cache.lookup(&mut me, key(2)) else {
         panic!(rt; "the object isn't found")
     };
-    let Ok(()) = clients.push(me) else {
-        panic!(rt; "there is no room for a client")
-    };
-    let (why, cache, mut clients) = refused(&rt, cache.close(clients));
+    let (why, cache, mut me) = stays_open(&rt, alloc, cache, me);
     assert_eq!(rt; why, ObjectCloseError::HandlesOut { client: 0 });
-    let Some(mut me) = clients.pop() else {
-        panic!(rt; "there is no client")
-    };
     assert!(rt;
         !gives_back(&rt, &cache, &mut me, handle),
         "the entry is gone"
     );
-    let Ok(()) = clients.push(me) else {
-        panic!(rt; "there is no room for a client")
-    };
-    let mut left = match cache.close(clients) {
+    assert_eq!(rt; taken(&cache, &mut me), Some((key(1), object(1))));
+    let mut left = match cache.close(alone(&rt, alloc, me)) {
         Ok(left) => left,
         Err(_) => panic!(rt; "it isn't closed"),
     };

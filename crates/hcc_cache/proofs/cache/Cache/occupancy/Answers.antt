@@ -6,6 +6,7 @@ use Rattle.hcc_shard.specs.Callers.{LoadsOccupancy}
 use Rattle.hcc_cache.specs.Clients.{view_at}
 use Rattle.hcc_cache.proofs.Clients.FoundAtEachShard.{each_first, each_next}
 use Rattle.hcc_cache.proofs.Clients.DoneAtAllShards.{goes_first, goes_on, sum_all, sum_next}
+use Rattle.hcc_cache.proofs.HandedBack.AloneAfterwards.{alone_same, alone_then}
 use Rattle.hcc_cache.proofs.cache.Cache.occupancy.Goals as goal
 
 pub loop-shard-init : goal.loop-shard-init
@@ -19,6 +20,7 @@ loop-shard-init g c = (
   each_first c.args.self.now LoadsOccupancy c.args.client.now,
   refl,
   λ s. refl,
+  alone_same c.args.client.now c.args.client.now refl refl,
 )
 
 pub loop-shard-preserved : goal.loop-shard-preserved
@@ -65,6 +67,7 @@ loop-shard-preserved g c =
           let more = total-append (λ n. n) sum.5 (c.occupancy_at-sum.result ∷ []) in
           omega arith),
       λ s. rests.counts s ∙ sum.8 s,
+      alone_then old now c.occupancy_at-sum.new.client sum.9 told.standing,
     )
 
 pub returns-clause-entries : goal.returns-clause-entries

@@ -3,6 +3,7 @@ use Rattle.hcc_core.specs.declared.limits.TheConstants.{OCCUPANCY_PERCENT}
 use Rattle.hcc_core.specs.Sums.{total}
 use Rattle.hcc_rule.specs.Records.{different}
 use Rattle.hcc_shard.specs.Callers.{LoadsOccupancy}
+use Rattle.hcc_cache.specs.Alones.{AreAlone}
 use Rattle.hcc_cache.specs.Calls.{CountsNone}
 use Rattle.hcc_cache.specs.Clients.{view_at}
 use Rattle.hcc_cache.proofs.Clients.FoundAtEachShard.{FindsEach}
@@ -22,3 +23,4 @@ invariant-loop-shard g l =
     × (counts : List ℕ) × FindsEach l.self LoadsOccupancy counts l.fn.client l.client l.shard
     × (l.sum ≡ total (λ n. n) counts)
     × CountsNone l.fn.client l.client
+    × AreAlone l.fn.client l.client

@@ -9,6 +9,7 @@ use Rattle.hcc_cache.specs.Clients.{view_by}
 use Rattle.hcc_cache.proofs.Clients.AtOneShard.{counts_none, did_at, is_at, seated_at}
 use Rattle.hcc_cache.proofs.Clients.HoldsTheSame.{keeps_same, knows_same, same_all}
 use Rattle.hcc_cache.proofs.Clients.Seats.{part_same, steps_set}
+use Rattle.hcc_cache.proofs.HandedBack.AloneAfterwards.{alone_same}
 use Rattle.hcc_cache.proofs.cache.Cache.occupancy_at.Goals as goal
 
 pub occupancy-requires : goal.occupancy-requires
@@ -114,3 +115,6 @@ returns-clause-steps g c =
     c.requires.known c.requires.within c.index.ensures c.index_mut-seat.ensures.value in
     steps_set c.args.client.now.seats.items c.args.shard 1 was c.occupancy.new.seat at.seat_is
     c.occupancy.ensures.steps
+
+pub returns-clause-standing : goal.returns-clause-standing
+returns-clause-standing g c = alone_same c.args.client.now _ refl refl

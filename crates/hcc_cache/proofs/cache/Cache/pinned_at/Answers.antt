@@ -9,6 +9,7 @@ use Rattle.hcc_cache.proofs.Clients.HoldsTheSame.{keeps_same, knows_same, same_s
 use Rattle.hcc_cache.proofs.Clients.Seats.{steps_set, view_here}
 use Rattle.std.specs.Vec.{with_item}
 use Rattle.hcc_cache.proofs.Clients.ShownAfterwards.{stays_at}
+use Rattle.hcc_cache.proofs.HandedBack.AloneAfterwards.{alone_same}
 use Rattle.hcc_cache.proofs.cache.Cache.pinned_at.Goals as goal
 
 pub pinned_usage-requires : goal.pinned_usage-requires
@@ -123,3 +124,6 @@ returns-clause-stays g c =
     }) c.args.shard c.index.result.now was c.pinned_usage.new.seat at
     (record { seats = refl; number = refl; most = refl; seed = refl; capacities = refl })
     c.pinned_usage.ensures.stays
+
+pub returns-clause-standing : goal.returns-clause-standing
+returns-clause-standing g c = alone_same c.args.client.now _ refl refl

@@ -7,6 +7,7 @@ use Rattle.hcc_cache.proofs.Clients.ChargesBounded.{charge_counts}
 use Rattle.hcc_cache.proofs.Clients.FoundAtEachShard.{each_first, each_next}
 use Rattle.hcc_cache.proofs.Clients.DoneAtAllShards.{goes_first, goes_on, most_counted, same_counted, sought_all, sum_all, sum_next, sum_to}
 use Rattle.hcc_cache.proofs.Clients.ShownAfterwards.{stays_same, stays_then}
+use Rattle.hcc_cache.proofs.HandedBack.AloneAfterwards.{alone_same, alone_then}
 use Rattle.hcc_cache.proofs.cache.Cache.pinned_usage.Goals as goal
 
 pub loop-shard-init : goal.loop-shard-init
@@ -19,6 +20,7 @@ loop-shard-init g c = (
   each_first c.args.self.now (CountsHeldAt g.T.Tag.fits) c.args.client.now,
   omega arith,
   stays_same c.args.self.now c.args.client.now c.args.client.now refl,
+  alone_same c.args.client.now c.args.client.now refl refl,
 )
 
 pub loop-shard-preserved : goal.loop-shard-preserved
@@ -49,6 +51,7 @@ loop-shard-preserved g c =
       (let before = c.loop-shard.invariant.5 in let sum = c.saturating_add-sum.ensures in
           let found = total-append (λ n. n) counts (c.pinned_at.result ∷ []) in omega arith),
       stays_then cache old now next c.loop-shard.invariant.6 told.stays,
+      alone_then old now next c.loop-shard.invariant.7 told.standing,
     )
 
 pub returns-clause-entries : goal.returns-clause-entries

@@ -1,6 +1,7 @@
 use Rattle.std.proofs.Common.{◌≡◌, ℕ, ◌+◌, ◌*◌, ◌-◌, ◌^◌, ◌≤◌, List, min}
 use Rattle.hcc_core.specs.Sums.{total}
 use Rattle.hcc_table.specs.Searched.{Sought}
+use Rattle.hcc_cache.specs.Alones.{AreAlone}
 use Rattle.hcc_cache.specs.Clients.{view_at}
 use Rattle.hcc_cache.specs.Stays.{Stays}
 use Rattle.hcc_cache.specs.Totals.{CountsHeldAt, charge_in}
@@ -18,3 +19,4 @@ invariant-loop-shard g l =
     × FindsEach l.self (CountsHeldAt g.T.Tag.fits) counts l.fn.client l.client l.shard
     × (l.sum ≡ min (total (λ n. n) counts) (2 ^ 64 - 1))
     × Stays l.self l.fn.client l.client
+    × AreAlone l.fn.client l.client

@@ -7,6 +7,7 @@ use Rattle.hcc_cache.specs.Totals.{charge_by, charge_in}
 use Rattle.hcc_cache.proofs.Clients.ChargesBounded.{charge_counts}
 use Rattle.hcc_cache.proofs.Clients.FoundAtEachShard.{each_first, each_next}
 use Rattle.hcc_cache.proofs.Clients.DoneAtAllShards.{goes_first, goes_on, most_counted, sum_all, sum_next, sum_to}
+use Rattle.hcc_cache.proofs.HandedBack.AloneAfterwards.{alone_same, alone_then}
 use Rattle.hcc_cache.proofs.cache.Cache.usage.Goals as goal
 
 pub loop-shard-init : goal.loop-shard-init
@@ -18,6 +19,7 @@ loop-shard-init g c = (
   each_first c.args.self.now LoadsUsage c.args.client.now,
   omega arith,
   λ s. refl,
+  alone_same c.args.client.now c.args.client.now refl refl,
 )
 
 pub loop-shard-preserved : goal.loop-shard-preserved
@@ -49,6 +51,7 @@ loop-shard-preserved g c =
       (let before = c.loop-shard.invariant.5 in let sum = c.saturating_add-sum.ensures in
           let more = total-append (λ n. n) counts (c.usage_at.result ∷ []) in omega arith),
       λ s. told.counts s ∙ c.loop-shard.invariant.6 s,
+      alone_then old now c.usage_at.new.client c.loop-shard.invariant.7 told.standing,
     )
 
 pub returns-clause-entries : goal.returns-clause-entries

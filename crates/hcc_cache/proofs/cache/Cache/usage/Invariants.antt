@@ -2,6 +2,7 @@ use Rattle.std.proofs.Common.{◌≡◌, ◌*◌, ◌-◌, ◌^◌, ◌≤◌, m
 use Rattle.hcc_core.specs.Sums.{total}
 use Rattle.hcc_rule.specs.ToldLedgers.{after_usage}
 use Rattle.hcc_shard.specs.Counted.{LoadsUsage}
+use Rattle.hcc_cache.specs.Alones.{AreAlone}
 use Rattle.hcc_cache.specs.Calls.{CountsNone}
 use Rattle.hcc_cache.specs.Clients.{view_at}
 use Rattle.hcc_cache.specs.Totals.{charge_in}
@@ -18,3 +19,4 @@ invariant-loop-shard g l =
     × (counts : List ℕ) × FindsEach l.self LoadsUsage counts l.fn.client l.client l.shard
     × (l.sum ≡ min (total (λ n. n) counts) (2 ^ 64 - 1))
     × CountsNone l.fn.client l.client
+    × AreAlone l.fn.client l.client

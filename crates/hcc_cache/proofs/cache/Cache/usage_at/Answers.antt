@@ -7,6 +7,7 @@ use Rattle.hcc_cache.specs.Clients.{view_by}
 use Rattle.hcc_cache.proofs.Clients.AtOneShard.{counts_none, did_at, is_at, seated_at, works_at}
 use Rattle.hcc_cache.proofs.Clients.HoldsTheSame.{keeps_same, knows_same, same_usage}
 use Rattle.hcc_cache.proofs.Clients.Seats.{steps_set}
+use Rattle.hcc_cache.proofs.HandedBack.AloneAfterwards.{alone_same}
 use Rattle.hcc_cache.proofs.cache.Cache.usage_at.Goals as goal
 
 pub usage-requires : goal.usage-requires
@@ -110,3 +111,6 @@ returns-clause-steps g c =
     c.requires.known c.requires.within c.index.ensures c.index_mut-seat.ensures.value in
     steps_set c.args.client.now.seats.items c.args.shard 1 was c.usage.new.seat at.seat_is
     c.usage.ensures.steps
+
+pub returns-clause-standing : goal.returns-clause-standing
+returns-clause-standing g c = alone_same c.args.client.now _ refl refl

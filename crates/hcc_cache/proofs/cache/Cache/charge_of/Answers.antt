@@ -1,0 +1,81 @@
+use Rattle.std.proofs.Common.{◌≡◌, refl, arith}
+use Rattle.std.specs.Vec.{with_item}
+use Rattle.hcc_cache.specs.declared.client.Client.{Client}
+use Rattle.hcc_cache.proofs.Handles.OneMoreOnPinned.{at_hold, held_within, pin_at, pinned_at, stand_there, told_of_both}
+use Rattle.hcc_cache.proofs.Clients.AtOneShard.{ChangesAt, seated_at, takes_at}
+use Rattle.hcc_cache.proofs.Searches.KnownAfterLookup.{IsLeft}
+use Rattle.hcc_cache.proofs.Searches.ReadByHandle.{knows_read, reads_at}
+use Rattle.hcc_table.proofs.Still.{seeks_still}
+use Rattle.hcc_cache.proofs.Clients.ShownAfterwards.{stays_at, stays_same}
+use Rattle.hcc_cache.proofs.HandedBack.AloneAfterwards.{alone_same}
+use Rattle.hcc_cache.proofs.cache.Cache.charge_of.Goals as goal
+
+pub index_mut-seat-requires : goal.index_mut-seat-requires
+index_mut-seat-requires g c =
+    let within = held_within c.args.handle c.requires.known c.requires.held in
+    let length_is = c.args.client.now.seats.ok.0 in
+    omega arith
+
+pub index-requires : goal.index-requires
+index-requires g c =
+    let within = held_within c.args.handle c.requires.known c.requires.held in
+    let length_is = c.args.self.now.shards.ok.0 in
+    omega arith
+
+pub index-requires-in-Err : goal.index-requires-in-Err
+index-requires-in-Err g c =
+    stand_there c.args.handle c.requires.known c.requires.held c.in-Err.ensures.standing
+
+pub charge-requires : goal.charge-requires
+charge-requires g c =
+    let at = at_hold c.args.handle c.requires.known c.requires.held c.index.ensures
+    c.index_mut-seat.ensures.value in
+    record {
+      seat =
+          (seated_at c.args.self.now c.args.client.now c.args.client.now c.args.hold.shard
+          c.index.result.now c.index_mut-seat.result.now c.index_mut-seat.result.now at).rests;
+      slot = (pin_at c.args.handle at c.requires.held c.in-Ok.ensures.pinned).within;
+      holds = pinned_at c.args.handle at c.requires.held c.in-Ok.ensures.pinned;
+    }
+
+pub returns-in-Ok : goal.returns-in-Ok
+returns-in-Ok g c =
+    let cache = c.args.self.now in
+    let old = c.args.client.now in
+    let hold = c.args.hold in
+    let shard = c.index.result.now in
+    let was = c.index_mut-seat.result.now in
+    let at = at_hold c.args.handle c.requires.known c.requires.held c.index.ensures
+    c.index_mut-seat.ensures.value in
+    let is = c.charge.new.seat in
+    let new : Client g.row.T.Denot = record old { seats = with_item old.seats hold.shard is } in
+    let change : ChangesAt old new hold.shard is =
+    record { seats = refl; number = refl; most = refl; seed = refl; capacities = refl } in
+    let left : IsLeft old new =
+    record { handles = refl; alone = refl; held = refl; uses = (refl, refl) } in
+    record {
+      known =
+          knows_read cache old new hold.shard shard was is at change left c.charge.ensures.view
+          c.charge.ensures.seat;
+      reads =
+          reads_at cache old new hold.shard shard was is at change left c.charge.ensures.view
+          c.charge.ensures.counts;
+      stays =
+          stays_at cache old new hold.shard shard was is at change
+          (seeks_still shard.table was.seat is.seat c.charge.ensures.seeks);
+      exact =
+          told_of_both c.args.handle at c.requires.held c.in-Ok.ensures.pinned
+          (λ value charge. c.charge.result ≡ charge) c.charge.ensures.exact;
+      standing = alone_same old new refl refl;
+      steps =
+          takes_at cache old new hold.shard shard was is at change 1
+          c.charge.ensures.steps;
+    }
+
+pub returns-in-Err-clause-standing : goal.returns-in-Err-clause-standing
+returns-in-Err-clause-standing g c =
+    alone_same c.args.client.now c.args.client.now refl refl
+
+pub returns-in-Err-clause-stays : goal.returns-in-Err-clause-stays
+returns-in-Err-clause-stays g c =
+    stays_same c.args.self.now c.args.client.now c.args.client.now refl
