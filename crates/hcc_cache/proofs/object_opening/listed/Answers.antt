@@ -1,8 +1,7 @@
-use Rattle.std.proofs.Common.{◌≡◌, ◌∙◌, [], ◌∷◌, ◌++◌, inl, inr, Some, map, slice_get, sym, refl, ap}
+use Rattle.std.proofs.Common.{◌∙◌, [], ◌∷◌, ◌++◌, inl, inr, map, slice_get, sym, ap}
 use Rattle.std.proofs.lemmas.List.{append_assoc, map-append}
 use Rattle.hcc_cache.specs.declared.object_cache.ObjectClient.{ObjectClient}
 use Rattle.hcc_cache.specs.Objects.{client_of}
-use Rattle.hcc_cache.specs.ObjectsOpened.{IsBlank}
 use Rattle.hcc_cache.proofs.Basics.Lists.{get_push}
 use Rattle.hcc_cache.proofs.object_opening.listed.Goals as goal
 

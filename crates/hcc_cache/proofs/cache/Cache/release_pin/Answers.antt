@@ -1,4 +1,4 @@
-use Rattle.std.proofs.Common.{◌≡◌, ◌∙◌, ◌+◌, ◌&&◌, get_or, slice_set, ap, refl, sym, arith, true}
+use Rattle.std.proofs.Common.{◌≡◌, ◌∙◌, ◌+◌, ◌&&◌, get_or, slice_set, ap, refl, sym, arith}
 use Rattle.std.specs.Vec.{with_item}
 use Rattle.hcc_rule.specs.declared.geometry.Geometry.{Geometry}
 use Rattle.hcc_table.specs.Lists.{Hands, has_room}

@@ -1,5 +1,3 @@
-use Rattle.std.proofs.Common.{subst}
-use Rattle.hcc_cache.specs.declared.object_cache.ObjectCache.{ObjectCache}
 use Rattle.hcc_cache.proofs.HandedBack.NewClients.{opened_for}
 use Rattle.hcc_cache.proofs.object_cache.ObjectCache.opened.Goals as goal
 

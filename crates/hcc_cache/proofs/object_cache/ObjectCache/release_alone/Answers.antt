@@ -1,7 +1,7 @@
-use Rattle.std.proofs.Common.{◌≡◌, ◌∙◌, ◌+◌, ◌-◌, ◌==◌, Bool, true, false, Some, None, length, sym, ap, subst, refl, if◌then◌else◌}
+use Rattle.std.proofs.Common.{◌≡◌, ◌∙◌, ◌+◌, ◌-◌, true, false, Some, None, length, sym, ap, subst, refl}
 use Rattle.std.proofs.lemmas.Bool.{eq-eqb, ne_eqb}
 use Rattle.std.proofs.lemmas.Option.{same_Some}
-use Rattle.slab.specs.Slab.{Updates, get}
+use Rattle.slab.specs.Slab.{Updates}
 use Rattle.hcc_cache.specs.declared.holding.Alone.{Alone}
 use Rattle.hcc_cache.specs.declared.object_cache.ObjectClient.{ObjectClient}
 use Rattle.hcc_cache.specs.Alones.{LessAlone}

@@ -7,4 +7,5 @@ pub returns-clause-known : goal.returns-clause-known
 returns-clause-known c =
     let old = c.args.client.now in
     let new : ObjectClient = record { client = c.usage.new.client; gone = old.gone } in
-    keeps_list c.args.self.now old new c.requires c.usage.ensures.known c.usage.ensures.standing refl
+    keeps_list c.args.self.now old new c.requires
+    c.usage.ensures.known c.usage.ensures.standing refl

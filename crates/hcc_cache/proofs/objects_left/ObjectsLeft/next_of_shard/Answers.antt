@@ -1,4 +1,4 @@
-use Rattle.std.proofs.Common.{◌≡◌, ◌∙◌, ◌+◌, ◌<◌, ◌≤◌, length, ap, arith}
+use Rattle.std.proofs.Common.{◌∙◌, ◌<◌, ◌≤◌, length, ap, arith}
 use Rattle.hcc_cache.specs.declared.closed.Closed.{Closed}
 use Rattle.hcc_cache.specs.Left.{slots_at}
 use Rattle.hcc_cache.proofs.HandedBack.ObjectsWalked.{walk_none, walk_on, walk_some}

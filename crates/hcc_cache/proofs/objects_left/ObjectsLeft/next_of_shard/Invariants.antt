@@ -1,4 +1,4 @@
-use Rattle.std.proofs.Common.{◌≡◌, ◌-◌, length}
+use Rattle.std.proofs.Common.{◌≡◌, ◌-◌}
 use Rattle.hcc_cache.specs.Left.{slots_at}
 use Rattle.hcc_cache.specs.ObjectsLeft.{left_at}
 use Rattle.hcc_cache.proofs.objects_left.ObjectsLeft.next_of_shard.Given as goal
