@@ -83,6 +83,9 @@ class ferret {
             return true;
         }
 
+        // The same where only the first word of a block is read; of bytes all are.
+        bool touch(const ferretgold_key &key, std::uint8_t *buffer) { return read(key, buffer); }
+
         // The same in one call, where the cache has one.
         bool get(const ferretgold_key &key, std::uint8_t *buffer) {
             return ferretgold_get(client_, &key, buffer, size_, true, nullptr) ==
@@ -135,6 +138,7 @@ class ferret_large {
         reader(reader &&) = default;
 
         bool read(const ferretgold_key &key, std::uint8_t *buffer) { return get(key, buffer); }
+        bool touch(const ferretgold_key &key, std::uint8_t *buffer) { return get(key, buffer); }
 
         bool get(const ferretgold_key &key, std::uint8_t *buffer) {
             return ferretgold_get_large(client_, &key, buffer, size_, true, nullptr) ==
@@ -198,6 +202,8 @@ struct twin_sizes {
 void *twin_open(const twin_sizes *sizes);
 void *twin_client(std::uint64_t number, std::uint32_t handles);
 std::uint64_t twin_lookup(const void *cache, void *client, std::uint64_t w0, std::uint64_t w1);
+std::uint64_t twin_lookup_word(const void *cache, void *client, std::uint64_t w0, std::uint64_t w1,
+                               std::uint64_t *word);
 std::uint64_t twin_read(const void *cache, const void *client, std::uint32_t handle,
                         std::uint8_t *buffer, std::size_t length);
 void twin_release(const void *cache, void *client, std::uint32_t handle, bool useful);
@@ -252,6 +258,8 @@ class twin {
             return true;
         }
 
+        bool touch(const ferretgold_key &key, std::uint8_t *buffer) { return read(key, buffer); }
+
         bool get(const ferretgold_key &key, std::uint8_t *buffer) {
             return twin_get(cache_, client_, key.w0, key.w1, buffer, size_) != none;
         }
@@ -273,7 +281,7 @@ class twin {
             held_.clear();
         }
 
-      private:
+      protected:
         static constexpr std::uint64_t none = UINT64_MAX;
         const void *cache_;
         void *client_;
@@ -297,16 +305,10 @@ class rocks {
         reader(reader &&) = default;
 
         bool read(const ferretgold_key &key, std::uint8_t *buffer) {
-            rocksdb::Cache::Handle *found = cache_.Lookup(slice(key));
-            if (found == nullptr) {
-                return false;
-            }
-            std::memcpy(buffer, cache_.Value(found), size_);
-            cache_.Release(found);
-            return true;
+            return look(key, buffer, size_);
         }
-
         bool get(const ferretgold_key &key, std::uint8_t *buffer) { return read(key, buffer); }
+        bool touch(const ferretgold_key &key, std::uint8_t *buffer) { return look(key, buffer, 8); }
 
         void insert(const ferretgold_key &key, const std::uint8_t *value) {
             (void)cache_.Insert(slice(key), copy(value), 1, &forget, nullptr,
@@ -331,6 +333,16 @@ class rocks {
         }
 
       private:
+        bool look(const ferretgold_key &key, std::uint8_t *buffer, std::uint32_t bytes) {
+            rocksdb::Cache::Handle *found = cache_.Lookup(slice(key));
+            if (found == nullptr) {
+                return false;
+            }
+            std::memcpy(buffer, cache_.Value(found), bytes);
+            cache_.Release(found);
+            return true;
+        }
+
         static rocksdb::Slice slice(const ferretgold_key &key) {
             return rocksdb::Slice(reinterpret_cast<const char *>(&key), sizeof key);
         }

@@ -3,7 +3,7 @@
 #ifndef PEERS_CASES_HPP
 #define PEERS_CASES_HPP
 
-#include "caches.hpp"
+#include "objects.hpp"
 
 #include <algorithm>
 #include <atomic>
@@ -19,6 +19,7 @@ namespace peers {
 
 enum class kind {
     hits_uniform,
+    touch,
     get,
     get_one,
     get_sixteen,
@@ -42,6 +43,7 @@ struct named_case {
 
 constexpr named_case all_cases[] = {
     {"hits-uniform", kind::hits_uniform},
+    {"touch", kind::touch},
     {"get", kind::get},
     {"get-one", kind::get_one},
     {"get-sixteen", kind::get_sixteen},
@@ -256,6 +258,7 @@ template <class Cache> class bench {
     void fill() {
         switch (is_) {
         case kind::hits_uniform:
+        case kind::touch:
         case kind::get:
         case kind::get_one:
         case kind::get_sixteen:
@@ -333,6 +336,8 @@ template <class Cache> class bench {
         case kind::hot:
         case kind::hits_zipf:
             return reader.read(key_of(loaded_file, drawn), buffer);
+        case kind::touch:
+            return reader.touch(key_of(loaded_file, drawn), buffer);
         case kind::get:
         case kind::get_one:
         case kind::get_sixteen:

@@ -81,6 +81,19 @@ impl Cache {
         client.keep(Holding::Pinned { shard, pin })
     }
 
+    /// The same, and the first word of the value.
+    #[inline(always)]
+    pub fn lookup_word(&self, client: &mut Client, key: Key) -> Option<(u32, u64)> {
+        if client.free.is_empty() {
+            return None;
+        }
+        let (key, shard) = self.placed(key);
+        let pin = self.shard(shard).find(key, &mut client.stats)?;
+        let word = self.shard(shard).first_word(pin.slot);
+        client.next_serial();
+        Some((client.keep(Holding::Pinned { shard, pin })?, word))
+    }
+
     #[inline(always)]
     pub fn read(&self, client: &Client, handle: u32, buffer: &mut [u8]) -> Option<usize> {
         match client.held.get(handle as usize)?.as_ref()? {

@@ -51,6 +51,18 @@ pub extern "C" fn twin_lookup(cache: &Cache, client: &mut Client, w0: u64, w1: u
     cache.lookup(client, Key { w0, w1 }).map_or(NONE, u64::from)
 }
 
+/// The same, and the first word of the value.
+#[no_mangle]
+pub extern "C" fn twin_lookup_word(cache: &Cache, client: &mut Client, w0: u64, w1: u64, word: &mut u64) -> u64 {
+    match cache.lookup_word(client, Key { w0, w1 }) {
+        Some((handle, found)) => {
+            *word = found;
+            u64::from(handle)
+        }
+        None => NONE,
+    }
+}
+
 /// # Safety
 /// The buffer has so many bytes.
 #[no_mangle]

@@ -295,6 +295,11 @@ impl Shard {
         length
     }
 
+    #[inline(always)]
+    pub fn first_word(&self, slot: u32) -> u64 {
+        self.at(slot, PAYLOAD).load(SeqCst)
+    }
+
     /// Gives a reference back: the word that is left.
     #[inline(always)]
     pub fn give(&self, pin: Pin, useful: bool) -> u64 {

@@ -1,5 +1,5 @@
 //! Objects: what each call answers, and what is handed back.
-ghost use Rattle.std.specs.Prelude.{◌≡◌, ◌∷◌, [], Err};
+ghost use Rattle.std.specs.Prelude.{◌≡◌, ◌∷◌, [], ℕ, Err, Some, slice_get};
 ghost use Rattle.hcc_cache.specs.Objects.{KnowsObjects};
 
 use hcc_cache::{
@@ -174,9 +174,17 @@ fn an_object_that_stands_alone_comes_back(rt: HostRuntime) {
     assert_eq!(rt; taken(&cache, &mut me), None);
 }
 
-/// A client by itself.
-fn alone(rt: &impl Abort, alloc: Global, me: ObjectClient) -> Vec<ObjectClient>
-    ensures { result.items ≡ me ∷ [] }
+/// The one client of a cache, by itself.
+fn alone(
+    rt: &impl Abort,
+    alloc: Global,
+    cache: &ObjectCache,
+    me: ObjectClient,
+) -> Vec<ObjectClient>
+    requires { KnowsObjects cache.now me }
+    ensures items { result.items ≡ me ∷ [] }
+    ensures known { (k : ℕ) (client : _) → slice_get result.items k ≡ Some client
+        → KnowsObjects cache.now client }
 {
     let mut clients = Vec::new(alloc);
     let Ok(()) = clients.push(me) else {
@@ -213,7 +221,7 @@ fn stays_open(
     requires { KnowsObjects cache me }
     ensures { KnowsObjects result.1 result.2 }
 {
-    let clients = alone(rt, alloc, me);
+    let clients = alone(rt, alloc, &cache, me);
     let (why, cache, mut clients) = refused(rt, cache.close(clients));
     let Some(me) = clients.pop() else {
         panic!(rt; "there is no client")
@@ -251,7 +259,8 @@ fn what_is_left_is_handed_out(rt: HostRuntime) {
         "the entry is gone"
     );
     assert_eq!(rt; taken(&cache, &mut me), Some((key(1), object(1))));
-    let mut left = match cache.close(alone(&rt, alloc, me)) {
+    let clients = alone(&rt, alloc, &cache, me);
+    let mut left = match cache.close(clients) {
         Ok(left) => left,
         Err(_) => panic!(rt; "it isn't closed"),
     };
@@ -259,7 +268,7 @@ fn what_is_left_is_handed_out(rt: HostRuntime) {
     while let Some(gone) = left.next() {
         let (key, object) = gone.take();
         assert_eq!(rt; key.w0, object.kind as u64);
-        sum += 1 + key.w0;
+        sum = (1 + object.kind as u64).wrapping_add(sum);
     }
     assert_eq!(rt; sum, 4);
     match left.end() {
