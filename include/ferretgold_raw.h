@@ -100,6 +100,91 @@ bool ferretgold_raw_holds(ferretgold_object *client, const ferretgold_handle *ha
 void ferretgold_raw_stats(ferretgold_object *client, ferretgold_stats *stats);
 void ferretgold_raw_counts(ferretgold_object *client, ferretgold_counts *counts);
 
+/* A cache of objects. It and its clients stay on the thread that opened it, as does what is left of it.
+ * What an entry stands for is something of the caller's: where it lies, below 2^48, and of which kind it
+ * is. The library never looks there. */
+typedef struct ferretgold_object_value {
+    uint64_t address;
+    uint16_t kind;
+} ferretgold_object_value;
+
+/* How large it is: the fields of ferretgold_config but the room, and how many entries a client's list
+ * takes of what its calls free, 4 to 65536. Beside these the list has places for as many as the client
+ * may hold handles. */
+typedef struct ferretgold_object_config {
+    uint32_t slots;
+    uint32_t clients;
+    uint32_t handles;
+    uint32_t gone;
+    uint32_t shards;
+    bool strict;
+    bool marks;
+    uint64_t capacity;
+    uint64_t serials;
+    uint64_t seed;
+} ferretgold_object_config;
+
+/* Statuses that these return beside those of ferretgold_status. */
+enum {
+    /* What is on the client's list and its standalone entries fill the list's places. */
+    FERRETGOLD_GONE_FULL = 41,
+    /* The object's address is 2^48 or above. */
+    FERRETGOLD_TOO_HIGH = 42,
+    /* The field `gone` of the configuration is out of its range. */
+    FERRETGOLD_BAD_GONE = 43,
+    /* Objects that are to be handed back weren't all taken. */
+    FERRETGOLD_UNTAKEN = 44
+};
+
+uint32_t ferretgold_raw_object_config_check(const ferretgold_object_config *config);
+/* As ferretgold_raw_open. */
+uint32_t ferretgold_raw_object_open(const ferretgold_object_config *config, uint32_t number,
+                                    ferretgold_object *clients, size_t count,
+                                    ferretgold_object *cache);
+/* A closed cache of objects: first the place for what is left of one, which allocates it, then that.
+ * A place takes what is left of one cache. */
+uint32_t ferretgold_raw_objects_open(ferretgold_object *left);
+/* Refuses the first client that is another cache's, by OTHER_CACHE, that holds a handle, by
+ * HANDLES_OUT, or on whose list something may be, by UNTAKEN: since its last insertion, release of a
+ * handle or erasure `take_gone` hasn't returned MISS. Then CLIENTS_OUT. Where a client is refused, or
+ * one is missing, all are in their places as before. */
+uint32_t ferretgold_raw_object_close(ferretgold_object cache, ferretgold_object *clients,
+                                     size_t count, ferretgold_object *left,
+                                     ferretgold_object *kept);
+/* The next object that the table had left, with the key of its insertion; MISS where all were handed
+ * out. Only then is it ended: before that `end` refuses by UNTAKEN, and `kept` has it. */
+uint32_t ferretgold_raw_objects_next(ferretgold_object *left, ferretgold_key *key,
+                                     ferretgold_object_value *object);
+uint32_t ferretgold_raw_objects_end(ferretgold_object left, ferretgold_object *kept);
+uint32_t ferretgold_raw_object_lookup(ferretgold_object *client, const ferretgold_key *key,
+                                      ferretgold_handle *handle, ferretgold_object_value *object);
+uint32_t ferretgold_raw_object_reref(ferretgold_object *client, const ferretgold_handle *handle,
+                                     ferretgold_handle *more);
+/* What is freed is on the client's list then, from which `take_gone` takes the newest; it returns MISS
+ * where nothing is on it. */
+uint32_t ferretgold_raw_object_release(ferretgold_object *client, const ferretgold_handle *handle,
+                                       bool useful, bool erase_if_last, bool *freed);
+uint32_t ferretgold_raw_object_erase(ferretgold_object *client, const ferretgold_key *key,
+                                     uint32_t *hidden);
+uint32_t ferretgold_raw_object_take_gone(ferretgold_object *client, ferretgold_key *key,
+                                         ferretgold_object_value *object);
+uint32_t ferretgold_raw_object_key(ferretgold_object *client, const ferretgold_handle *handle,
+                                   ferretgold_key *key);
+uint32_t ferretgold_raw_object_charge(ferretgold_object *client, const ferretgold_handle *handle,
+                                      uint64_t *charge);
+/* `placing` is of the numbers of ferretgold_inserted: an object that is placed is the cache's, one that
+ * stands alone is the client's, and one that is dropped stays the caller's, as after a refusal. Where
+ * it isn't placed, and after CAPACITY_FULL and OCCUPANCY_FULL, `list_full` says whether the client's
+ * list has no room for what a turn of the hand frees, so that with an empty one more may be freed.
+ * Beside what the calls of a cache of bytes refuse, TOO_HIGH; with a handle GONE_FULL. */
+uint32_t ferretgold_raw_object_insert(ferretgold_object *client, const ferretgold_key *key,
+                                      const ferretgold_object_value *object, uint32_t charge,
+                                      uint32_t priority, uint32_t *placing, bool *list_full);
+uint32_t ferretgold_raw_object_insert_pinned(ferretgold_object *client, const ferretgold_key *key,
+                                             const ferretgold_object_value *object, uint32_t charge,
+                                             uint32_t priority, uint32_t *placing, bool *list_full,
+                                             ferretgold_handle *handle);
+
 #ifdef __cplusplus
 }
 #endif

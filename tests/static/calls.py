@@ -37,7 +37,9 @@ MAY_ALLOCATE = {
     "hcc_block": "",
     "hcc_c": "ferretgold_raw_open ferretgold_raw_reopen ferretgold_raw_close ferretgold_raw_close_keeping"
     " ferretgold_raw_closed_open ferretgold_raw_closed_free ferretgold_raw_image_open"
-    " ferretgold_raw_image_add ferretgold_raw_image_free ferretgold_raw_insert_pinned",
+    " ferretgold_raw_image_add ferretgold_raw_image_free ferretgold_raw_insert_pinned"
+    " ferretgold_raw_object_open ferretgold_raw_object_close ferretgold_raw_objects_open"
+    " ferretgold_raw_objects_end",
 }
 # Public functions that nothing above their crate calls, by the reason why they are there.
 CALLED_BY_NOBODY = {

@@ -23,18 +23,18 @@ use Rattle.hcc_c.specs.Pools.{AreFit, Closes, Ends, EndsWith, Has, IsBack, IsEmp
 use Rattle.hcc_c.specs.Sessions.{IsWhole, any}
 
 -- what holds of each member holds of that at an index, and back
-each_at : {A : Type 0} (P : A → Type 0) (xs : List A) → Each P xs
+pub each_at : {A : Type 0} (P : A → Type 0) (xs : List A) → Each P xs
     → (k : ℕ) (x : A) → slice_get xs k ≡ Some x → P x
 each_at P [] each k x at = cc
 each_at P (y ∷ ys) each zero x at = let same : y ≡ x = cc in rw (sym same) each.0
 each_at P (y ∷ ys) each (suc k) x at = each_at P ys each.1 k x at
 
-each_of : {A : Type 0} (P : A → Type 0) (xs : List A)
+pub each_of : {A : Type 0} (P : A → Type 0) (xs : List A)
     → ((k : ℕ) (x : A) → slice_get xs k ≡ Some x → P x) → Each P xs
 each_of P [] each = tt
 each_of P (x ∷ xs) each = (each 0 x refl, each_of P xs (λ k y at. each (suc k) y at))
 
-each_both : {A : Type 0} (P : A → Type 0) (xs ys : List A) → Each P xs → Each P ys
+pub each_both : {A : Type 0} (P : A → Type 0) (xs ys : List A) → Each P xs → Each P ys
     → Each P (xs ++ ys)
 each_both P [] ys front back = back
 each_both P (x ∷ xs) ys front back = (front.0, each_both P xs ys front.1 back)
@@ -69,7 +69,7 @@ are_back cache config clients has enough =
     }
 
 -- What passes two judgements passes each.
-first_ok : (a b : Result (Unit {0}) Refusal) → first_of a b ≡ Ok tt → (a ≡ Ok tt) × (b ≡ Ok tt)
+pub first_ok : (a b : Result (Unit {0}) Refusal) → first_of a b ≡ Ok tt → (a ≡ Ok tt) × (b ≡ Ok tt)
 first_ok (Ok fit) b ok = (refl, ok)
 first_ok (Err why) b ok = cc
 
@@ -171,15 +171,15 @@ ended (Err why) old new were are back ok none items whole shared closes = record
 }
 
 -- What is told of a cache that ended.
-ends_told : {A : Type 0} (closed : Closed) (given : A) (J : Result (Unit {0}) Refusal)
+pub ends_told : {A C : Type 0} (closed : C) (given : A) (J : Result (Unit {0}) Refusal)
     (X Y : Type 0)
-    → IfErr J (λ why. (◌≡◌ {A = Result Closed Refusal} (Ok closed) (Err why)) × X × Y)
+    → IfErr J (λ why. (◌≡◌ {A = Result C Refusal} (Ok closed) (Err why)) × X × Y)
     → IfErr J (λ why. (◌≡◌ {A = Result A Refusal} (Ok given) (Err why)) × X × Y)
 ends_told closed given (Ok fit) X Y refused = tt
-ends_told closed given (Err why) X Y refused =
-    let bad : ◌≡◌ {A = Result Closed Refusal} (Ok closed) (Err why) = refused.0 in cc
+ends_told {C = C} closed given (Err why) X Y refused =
+    let bad : ◌≡◌ {A = Result C Refusal} (Ok closed) (Err why) = refused.0 in cc
 
-on_ok : {X : Type 0} (J : Result (Unit {0}) Refusal) → X → OnOk J X
+pub on_ok : {X : Type 0} (J : Result (Unit {0}) Refusal) → X → OnOk J X
 on_ok (Ok fit) x = x
 on_ok (Err why) x = tt
 

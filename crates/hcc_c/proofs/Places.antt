@@ -9,31 +9,44 @@ use Rattle.hcc_c.specs.declared.objects.ClientPlace.{ClientPlace}
 use Rattle.hcc_c.specs.Pools.{first_of, held_in, judged_back, judged_each, clients_in}
 
 -- what is left from an index on begins with what the place there holds
-pub rest_at : (ps : List ClientPlace) (k : ℕ) (d : ClientPlace) → k < length ps
-    → drop k (held_in ps) ≡ (slice_index_or ps k d).value ∷ drop (suc k) (held_in ps)
-rest_at [] k d inside = absurd (omega arith)
-rest_at (p ∷ ps) zero d inside = refl
-rest_at (p ∷ ps) (suc k) d inside = rest_at ps k d (omega arith)
+module _ {P S : Type 0} (value : P → Option S) where
+  pub rest_at : (ps : List P) (k : ℕ) (d : P) → k < length ps
+      → drop k (map value ps) ≡ value (slice_index_or ps k d) ∷ drop (suc k) (map value ps)
+  rest_at [] k d inside = absurd (omega arith)
+  rest_at (p ∷ ps) zero d inside = refl
+  rest_at (p ∷ ps) (suc k) d inside = rest_at ps k d (omega arith)
 
--- where a place is written, those behind it and those before it stay
-pub rest_set : (ps : List ClientPlace) (k : ℕ) (p : ClientPlace) → k < length ps
-    → drop k (held_in (slice_set ps k p)) ≡ p.value ∷ drop (suc k) (held_in ps)
-rest_set [] k p inside = absurd (omega arith)
-rest_set (q ∷ qs) zero p inside = refl
-rest_set (q ∷ qs) (suc k) p inside = rest_set qs k p (omega arith)
+  -- where a place is written, those behind it and those before it stay
+  pub rest_set : (ps : List P) (k : ℕ) (p : P) → k < length ps
+      → drop k (map value (slice_set ps k p)) ≡ value p ∷ drop (suc k) (map value ps)
+  rest_set [] k p inside = absurd (omega arith)
+  rest_set (q ∷ qs) zero p inside = refl
+  rest_set (q ∷ qs) (suc k) p inside = rest_set qs k p (omega arith)
 
-pub front_set : (ps : List ClientPlace) (k : ℕ) (p : ClientPlace) → k < length ps
-    → take (suc k) (held_in (slice_set ps k p)) ≡ take k (held_in ps) ++ p.value ∷ []
-front_set [] k p inside = absurd (omega arith)
-front_set (q ∷ qs) zero p inside = refl
-front_set (q ∷ qs) (suc k) p inside = ap (λ xs. q.value ∷ xs) (front_set qs k p (omega arith))
+  pub front_set : (ps : List P) (k : ℕ) (p : P) → k < length ps
+      → take (suc k) (map value (slice_set ps k p)) ≡ take k (map value ps) ++ value p ∷ []
+  front_set [] k p inside = absurd (omega arith)
+  front_set (q ∷ qs) zero p inside = refl
+  front_set (q ∷ qs) (suc k) p inside =
+      ap (λ xs. value q ∷ xs) (front_set qs k p (omega arith))
 
--- and where it holds the same again, all do
-pub held_set : (ps : List ClientPlace) (k : ℕ) (d p : ClientPlace)
-    → p.value ≡ (slice_index_or ps k d).value → held_in (slice_set ps k p) ≡ held_in ps
-held_set [] k d p same = refl
-held_set (q ∷ qs) zero d p same = ap (λ v. v ∷ held_in qs) same
-held_set (q ∷ qs) (suc k) d p same = ap (λ xs. q.value ∷ xs) (held_set qs k d p same)
+  -- and where it holds the same again, all do
+  pub held_set : (ps : List P) (k : ℕ) (d p : P)
+      → value p ≡ value (slice_index_or ps k d) → map value (slice_set ps k p) ≡ map value ps
+  held_set [] k d p same = refl
+  held_set (q ∷ qs) zero d p same = ap (λ v. v ∷ map value qs) same
+  held_set (q ∷ qs) (suc k) d p same = ap (λ xs. value q ∷ xs) (held_set qs k d p same)
+
+  -- what is behind a place that was written
+  pub after_set : (ps : List P) (k : ℕ) (p : P)
+      → drop (suc k) (map value (slice_set ps k p)) ≡ drop (suc k) (map value ps)
+  after_set [] k p = refl
+  after_set (q ∷ qs) zero p = refl
+  after_set (q ∷ qs) (suc k) p = after_set qs k p
+
+-- what a place for a client holds
+abbrev pub held : ClientPlace → Option Session
+held place = place.value
 
 judged_on : (number : ℕ) (held : Option Session) (rest : List (Option Session))
     (answer : Result (Unit {0}) Refusal)
@@ -50,7 +63,7 @@ pub judged_next : (number : ℕ) (ps : List ClientPlace) (k : ℕ) (d : ClientPl
     → judged_each number (drop k (held_in ps))
     ≡ first_of answer (judged_each number (drop (suc k) (held_in ps)))
 judged_next number ps k d answer inside told =
-    ap (judged_each number) (rest_at ps k d inside)
+    ap (judged_each number) (rest_at held ps k d inside)
     ∙ judged_on number (slice_index_or ps k d).value (drop (suc k) (held_in ps)) answer told
 
 clients_on : (held : Option Session) (rest : List (Option Session)) (client : Client AnyBytes)
@@ -64,15 +77,8 @@ pub clients_next : (ps : List ClientPlace) (k : ℕ) (d : ClientPlace) (client :
     → k < length ps → IsSomeAnd (slice_index_or ps k d).value (λ session. client ≡ session.client)
     → clients_in (drop k (held_in ps)) ≡ client ∷ clients_in (drop (suc k) (held_in ps))
 clients_next ps k d client inside told =
-    ap clients_in (rest_at ps k d inside)
+    ap clients_in (rest_at held ps k d inside)
     ∙ clients_on (slice_index_or ps k d).value (drop (suc k) (held_in ps)) client told
-
--- what is behind a place that was written
-pub after_set : (ps : List ClientPlace) (k : ℕ) (p : ClientPlace)
-    → drop (suc k) (held_in (slice_set ps k p)) ≡ drop (suc k) (held_in ps)
-after_set [] k p = refl
-after_set (q ∷ qs) zero p = refl
-after_set (q ∷ qs) (suc k) p = after_set qs k p
 
 -- the last of these goes in front of the rest
 pub last_moved : {A B : Type 0} (f : A → B) (xs : List A) (x : A) (rest : List B)

@@ -9,3 +9,11 @@ pub mod Images
 pub mod Lending
 pub mod Places
 pub mod Answers
+pub mod ObjectShapes
+pub mod ObjectCounts
+pub mod ObjectSessions
+pub mod ObjectCalls
+pub mod ObjectsKept
+pub mod ObjectPools
+pub mod ObjectLending
+pub mod ObjectAnswers

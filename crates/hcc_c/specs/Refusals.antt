@@ -6,14 +6,20 @@ use Rattle.hcc_cache.specs.declared.errors.LookupError.{LookupError}
 use Rattle.hcc_cache.specs.declared.errors.LookupError.TheVariants as look
 use Rattle.hcc_cache.specs.declared.errors.InsertError.{InsertError}
 use Rattle.hcc_cache.specs.declared.errors.InsertError.TheVariants as insert
+use Rattle.hcc_cache.specs.declared.errors.ObjectError.{ObjectError}
+use Rattle.hcc_cache.specs.declared.errors.ObjectError.TheVariants as object
+use Rattle.hcc_cache.specs.declared.errors.ObjectNewError.{ObjectNewError}
+use Rattle.hcc_cache.specs.declared.errors.ObjectNewError.TheVariants as new_objects
 use Rattle.hcc_cache.specs.declared.inserting.Inserted.{Inserted}
 use Rattle.hcc_cache.specs.declared.inserting.Inserted.TheVariants as inserted
+use Rattle.hcc_cache.specs.declared.object_inserting.Placing.{Placing}
+use Rattle.hcc_cache.specs.declared.object_inserting.Placing.TheVariants as placing
 use Rattle.hcc_cache.specs.declared.priority.Priority.{Priority}
 use Rattle.hcc_cache.specs.declared.priority.Priority.TheVariants.{High, Low, Bottom}
 use Rattle.hcc_c.specs.declared.inserting.Unfit.{Unfit}
 use Rattle.hcc_c.specs.declared.inserting.Unfit.TheVariants as unfit
 use Rattle.hcc_c.specs.declared.refusal.Refusal.{Refusal}
-use Rattle.hcc_c.specs.declared.refusal.Refusal.TheVariants.{NoHandle, NoCharge, TooLong, TooShort, BadPriority, OutOfRange, HandlesFull, Spent, TooLarge, CapacityFull, OccupancyFull, OutOfMemory, BadSlots, BadRoom, BadClients, BadHandles, BadShards, BadCapacity, BadSerials, NoClient, OtherCache, HandlesOut, ClientsOut}
+use Rattle.hcc_c.specs.declared.refusal.Refusal.TheVariants.{NoHandle, NoCharge, TooLong, TooShort, BadPriority, OutOfRange, HandlesFull, Spent, TooLarge, CapacityFull, OccupancyFull, OutOfMemory, BadSlots, BadRoom, BadClients, BadHandles, BadShards, BadCapacity, BadSerials, NoClient, OtherCache, HandlesOut, ClientsOut, GoneFull, TooHigh, BadGone, Untaken}
 
 -- the numbers that the header gives
 abbrev pub code_of : Refusal → ℕ
@@ -40,6 +46,10 @@ code_of NoClient = 36
 code_of OtherCache = 37
 code_of HandlesOut = 38
 code_of ClientsOut = 39
+code_of GoneFull = 41
+code_of TooHigh = 42
+code_of BadGone = 43
+code_of Untaken = 44
 
 -- why a cache isn't made
 abbrev pub opening_of : NewError → Refusal
@@ -51,6 +61,11 @@ opening_of new.BadShards = BadShards
 opening_of new.BadCapacity = BadCapacity
 opening_of new.BadSerials = BadSerials
 opening_of new.OutOfMemory = OutOfMemory
+
+-- why a cache of objects isn't made
+abbrev pub opening_objects_of : ObjectNewError → Refusal
+opening_objects_of (new_objects.Bad why) = opening_of why
+opening_objects_of new_objects.BadGone = BadGone
 
 -- why a handle isn't given
 abbrev pub looking_of : LookupError → Refusal
@@ -64,6 +79,16 @@ inserting_of insert.Spent = Spent
 inserting_of insert.TooLarge = TooLarge
 inserting_of insert.CapacityFull = CapacityFull
 inserting_of insert.OccupancyFull = OccupancyFull
+
+-- why no object is inserted
+abbrev pub inserting_object_of : ObjectError → Refusal
+inserting_object_of object.HandlesFull = HandlesFull
+inserting_object_of object.Spent = Spent
+inserting_object_of object.GoneFull = GoneFull
+inserting_object_of object.TooHigh = TooHigh
+inserting_object_of object.TooLarge = TooLarge
+inserting_object_of (object.CapacityFull full) = CapacityFull
+inserting_object_of (object.OccupancyFull full) = OccupancyFull
 
 -- why the cache isn't asked to insert a value
 abbrev pub unfit_of : Unfit → Refusal
@@ -82,3 +107,9 @@ abbrev pub inserted_code : Inserted → ℕ
 inserted_code inserted.Placed = 0
 inserted_code inserted.Dropped = 1
 inserted_code inserted.Standalone = 2
+
+-- and of an insertion of an object
+abbrev pub placing_code : Placing → ℕ
+placing_code placing.Placed = 0
+placing_code (placing.Dropped full) = 1
+placing_code (placing.Standalone full) = 2

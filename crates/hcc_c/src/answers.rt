@@ -14,7 +14,7 @@ use hcc_cache::{Got, InsertError, Inserted, LookupError};
 /// The answers that are no refusals.
 pub(crate) const DONE: u32 = 0;
 
-const MISSED: u32 = 1;
+pub(crate) const MISSED: u32 = 1;
 
 /// Gives C a value, or why there is none.
 pub(crate) fn told<T: Copy>(answer: Option<T>, why: Refusal, out: &mut T) -> u32

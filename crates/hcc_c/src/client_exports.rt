@@ -143,7 +143,7 @@ pub extern "C" fn ferretgold_raw_insert_pinned(
         return Refusal::BadPriority.code();
     };
     let session = client.session();
-    let answer = session.insert_pinned(alloc, key.key(), value, charge, priority);
+    let answer = session.insert_copied(alloc, key.key(), value, charge, priority);
     told_pinned(answer, inserted, handle)
 }
 

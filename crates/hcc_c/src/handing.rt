@@ -106,7 +106,7 @@ fn judge_in_place(alloc: Global, place: &mut ClientPlace, number: u32) -> Result
     ensures judged { IsSomeAnd place.old.value (λ session. result ≡ judged_back number session) }
     ensures same { place.new.value ≡ place.old.value }
 {
-    let session = mem::replace(place, ClientPlace::none()).client(alloc);
+    let session = mem::replace(place, ClientPlace::none()).whole(alloc);
     let answer = judged(&session, number);
     *place = ClientPlace::of(Loose::of(session));
     answer
@@ -143,7 +143,7 @@ fn take(alloc: Global, place: &mut ClientPlace) -> Client<AnyBytes>
     ensures taken { IsSomeAnd place.old.value (λ session. result ≡ session.client) }
     ensures none { place.new.value ≡ None }
 {
-    let session = mem::replace(place, ClientPlace::none()).client(alloc);
+    let session = mem::replace(place, ClientPlace::none()).whole(alloc);
     let Session { client, .. } = Box::into_inner(session);
     client
 }

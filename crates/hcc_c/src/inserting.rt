@@ -43,7 +43,7 @@ impl Session {
 
     /// The same with a handle on what was inserted, which is given by its numbers. Memory is
     /// allocated for a copy of the value.
-    pub fn insert_pinned(
+    pub fn insert_copied(
         &mut self,
         alloc: Global,
         key: Key,

@@ -15,6 +15,18 @@ mod handles;
 mod image;
 mod image_exports;
 mod inserting;
+mod kept_objects;
+mod object_answers;
+mod object_cache_exports;
+mod object_client_exports;
+mod object_handing;
+mod object_handles;
+mod object_holders;
+mod object_inserting;
+mod object_pool;
+mod object_reading;
+mod object_session;
+mod object_shapes;
 mod objects;
 mod pool;
 mod reading;
@@ -24,6 +36,11 @@ mod session;
 mod shapes;
 mod totals;
 
+pub use object_holders::{
+    KeptObjectsAt, KeptObjectsPlace, ObjectCacheAt, ObjectCachePlace, ObjectClientAt,
+    ObjectClientPlace,
+};
+pub use object_shapes::{CObject, CObjectConfig};
 pub use objects::{
     CacheObject, CachePlace, ClientObject, ClientPlace, ClosedObject, ClosedPlace, ImageObject,
     ImagePlace, objects_cross,

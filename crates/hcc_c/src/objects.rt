@@ -141,7 +141,7 @@ impl ImageObject {
 
 /// A box as its pointer.
 pub(crate) struct Loose<T> {
-    at: *mut T,
+    pub(crate) at: *mut T,
     ghost alloc: { Global },
     ghost value: { T },
 }
@@ -192,7 +192,7 @@ impl ClientPlace {
     }
 
     /// The client that it has, which C has no more.
-    pub(crate) fn client(self, alloc: Global) -> Box<Session>
+    pub(crate) fn whole(self, alloc: Global) -> Box<Session>
         requires { IsSome self.value }
         ensures { self.value ≡ Some result.value }
     {

@@ -1,9 +1,11 @@
 //! Why a call does nothing, and their numbers in C.
 ghost use Rattle.std.specs.Prelude.{◌≡◌};
-ghost use Rattle.hcc_c.specs.Refusals.{code_of, inserted_code, inserting_of, looking_of, opening_of, priority_of, unfit_of};
+ghost use Rattle.hcc_c.specs.Refusals.{code_of, inserted_code, inserting_object_of, inserting_of, looking_of, opening_objects_of, opening_of, placing_code, priority_of, unfit_of};
 
 use crate::inserting::Unfit;
-use hcc_cache::{InsertError, Inserted, LookupError, NewError, Priority};
+use hcc_cache::{
+    InsertError, Inserted, LookupError, NewError, ObjectError, ObjectNewError, Placing, Priority,
+};
 
 /// Why a call does nothing. The first that is due is returned.
 #[derive(Clone, Copy, Debug, PartialEq, Eq)]
@@ -41,6 +43,14 @@ pub enum Refusal {
     HandlesOut,
     /// Clients of the cache are out.
     ClientsOut,
+    /// What is on the client's list and its standalone entries fill the list's places.
+    GoneFull,
+    /// The object's address is 2^48 or above.
+    TooHigh,
+    BadGone,
+    /// Objects that are to be handed back weren't all taken: of a client's list, or of what is left
+    /// of a cache.
+    Untaken,
 }
 
 impl Refusal {
@@ -72,6 +82,10 @@ impl Refusal {
             Refusal::OtherCache => 37,
             Refusal::HandlesOut => 38,
             Refusal::ClientsOut => 39,
+            Refusal::GoneFull => 41,
+            Refusal::TooHigh => 42,
+            Refusal::BadGone => 43,
+            Refusal::Untaken => 44,
         }
     }
 
@@ -88,6 +102,16 @@ impl Refusal {
             NewError::BadCapacity => Refusal::BadCapacity,
             NewError::BadSerials => Refusal::BadSerials,
             NewError::OutOfMemory => Refusal::OutOfMemory,
+        }
+    }
+
+    /// Why a cache of objects isn't made.
+    pub(crate) fn opening_objects(why: ObjectNewError) -> Refusal
+        ensures { result ≡ opening_objects_of why }
+    {
+        match why {
+            ObjectNewError::Bad(why) => Refusal::opening(why),
+            ObjectNewError::BadGone => Refusal::BadGone,
         }
     }
 
@@ -111,6 +135,21 @@ impl Refusal {
             InsertError::TooLarge => Refusal::TooLarge,
             InsertError::CapacityFull => Refusal::CapacityFull,
             InsertError::OccupancyFull => Refusal::OccupancyFull,
+        }
+    }
+
+    /// Why no object is inserted.
+    pub(crate) fn inserting_object(why: ObjectError) -> Refusal
+        ensures { result ≡ inserting_object_of why }
+    {
+        match why {
+            ObjectError::HandlesFull => Refusal::HandlesFull,
+            ObjectError::Spent => Refusal::Spent,
+            ObjectError::GoneFull => Refusal::GoneFull,
+            ObjectError::TooHigh => Refusal::TooHigh,
+            ObjectError::TooLarge => Refusal::TooLarge,
+            ObjectError::CapacityFull { .. } => Refusal::CapacityFull,
+            ObjectError::OccupancyFull { .. } => Refusal::OccupancyFull,
         }
     }
 
@@ -149,5 +188,16 @@ pub(crate) fn inserted_code(what: Inserted) -> u32
         Inserted::Placed => 0,
         Inserted::Dropped => 1,
         Inserted::Standalone => 2,
+    }
+}
+
+/// The number of what came of an insertion of an object: that of the same word of a cache of bytes.
+pub(crate) fn placing_code(what: Placing) -> u32
+    ensures { result ≡ placing_code what }
+{
+    match what {
+        Placing::Placed => 0,
+        Placing::Dropped { .. } => 1,
+        Placing::Standalone { .. } => 2,
     }
 }

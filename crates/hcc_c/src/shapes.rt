@@ -247,7 +247,7 @@ impl Counts {
 
 /// Counts one more, up to the greatest number.
 #[inline(always)]
-fn one_more(count: &mut u64)
+pub(crate) fn one_more(count: &mut u64)
     ensures { count.new ≡ with_count count.old 1 }
 {
     if let Some(more) = count.checked_add(1) {

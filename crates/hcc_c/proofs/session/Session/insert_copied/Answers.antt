@@ -1,7 +1,7 @@
 use Rattle.std.proofs.Common.{arith, rules}
 use Rattle.std.proofs.lemmas.Grind.{common_steps}
-use Rattle.hcc_c.proofs.session.Session.insert_pinned.Goals as goal
-use Rattle.hcc_c.proofs.session.Session.insert_pinned.Goals.{in-Ok-answer, in-Err}
+use Rattle.hcc_c.proofs.session.Session.insert_copied.Goals as goal
+use Rattle.hcc_c.proofs.session.Session.insert_copied.Goals.{in-Ok-answer, in-Err}
 
 pub returns-clause-puts : goal.returns-clause-puts
 returns-clause-puts c =

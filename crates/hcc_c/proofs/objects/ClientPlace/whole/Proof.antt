@@ -1,10 +1,10 @@
 use Rattle.std.proofs.Common.{refl}
 use Rattle.hcc_c.proofs.{Holders.holder, Holders.takes_out, session.Session.TheLaws.the_row_laws}
-use Rattle.hcc_c.proofs.objects.ClientPlace.client.{Code.code, Code.unfolded, Statement.statement}
+use Rattle.hcc_c.proofs.objects.ClientPlace.whole.{Code.code, Code.unfolded, Statement.statement}
 use Rattle.hcc_c.specs.contracts.{session.Session.the_row, objects.ClientPlace.the_type}
 
-pub client_spec : {M : Type 1} → statement M
+pub whole_spec : {M : Type 1} → statement M
 unfolding code
-client_spec 𝓤 𝓛 𝓜 𝓡 w = takes_out the_row 𝓤 𝓛 𝓜 𝓡 the_row_laws refl (holder the_type
+whole_spec 𝓤 𝓛 𝓜 𝓡 w = takes_out the_row 𝓤 𝓛 𝓜 𝓡 the_row_laws refl (holder the_type
     (λ h. (h.at, h.alloc, h.value)) (λ d. record { at = d.0; alloc = d.1; value = d.2 }) (λ d i. d))
     (λ a p x. refl) _ (unfolded 𝓤 𝓛.H 𝓜 𝓡 w) w.2

@@ -1,0 +1,79 @@
+//! Handles on objects, which are given by their numbers, and given back; and objects that are
+//! handed back.
+ghost use Rattle.hcc_c.specs.ObjectCalls.{GivesBack, Hides, LooksUp, RefersAgain, TakesGone};
+ghost use Rattle.hcc_c.specs.ObjectSessions.{IsWhole};
+
+use crate::object_session::ObjectSession;
+use crate::shapes::CHandle;
+use hcc_cache::{Key, LookupError, Object};
+
+impl ObjectSession {
+    /// Looks for a visible entry of the key, as the cache does. The handle that it gives is named
+    /// by its numbers, and the object is that of its entry.
+    pub fn lookup(&mut self, key: Key) -> Result<Option<(CHandle, Object)>, LookupError>
+        requires { IsWhole self.old }
+        ensures whole { IsWhole self.new }
+        ensures looks { LooksUp key result self.old self.new }
+    {
+        match self.cache.lookup(&mut self.client, key)? {
+            Some((handle, object)) => {
+                self.counts.hit();
+                Ok(Some((CHandle::of(self.cache_number, handle), object)))
+            }
+            None => {
+                self.counts.miss();
+                Ok(None)
+            }
+        }
+    }
+
+    /// One handle more on the very entry that a handle is on; none where the client holds no
+    /// handle of these numbers.
+    pub fn reref(&mut self, c_handle: CHandle) -> Option<Result<CHandle, LookupError>>
+        requires { IsWhole self.old }
+        ensures whole { IsWhole self.new }
+        ensures again { RefersAgain c_handle result self.old self.new }
+    {
+        let handle = self.handle(c_handle)?;
+        match self.cache.reref(&mut self.client, handle) {
+            Ok(more) => Some(Ok(CHandle::of(self.cache_number, more))),
+            Err(why) => Some(Err(why)),
+        }
+    }
+
+    /// Gives a handle back, as the cache does: whether an entry was freed, whose object is on the
+    /// client's list then. None where the client holds no handle of these numbers.
+    pub fn release(&mut self, c_handle: CHandle, useful: bool, erase_if_last: bool) -> Option<bool>
+        requires { IsWhole self.old }
+        ensures whole { IsWhole self.new }
+        ensures released { GivesBack c_handle erase_if_last result self.old self.new }
+    {
+        let handle = self.handle(c_handle)?;
+        self.drained = false;
+        let client = &mut self.client;
+        Some(self.cache.release(client, handle, useful, erase_if_last))
+    }
+
+    /// Hides each visible entry of the key, as the cache does: how many it hid. What it frees is on
+    /// the client's list then.
+    pub fn erase(&mut self, key: Key) -> u32
+        requires { IsWhole self.old }
+        ensures whole { IsWhole self.new }
+        ensures hides { Hides key result self.old self.new }
+    {
+        self.drained = false;
+        self.cache.erase(&mut self.client, key)
+    }
+
+    /// Takes one object off the client's list, the newest, with the key of its insertion; none
+    /// where nothing is on it.
+    pub fn take_gone(&mut self) -> Option<(Key, Object)>
+        requires { IsWhole self.old }
+        ensures whole { IsWhole self.new }
+        ensures takes { TakesGone result self.old self.new }
+    {
+        let gone = self.cache.take_gone(&mut self.client);
+        self.drained = gone.is_none();
+        Some(gone?.take())
+    }
+}

@@ -1,0 +1,30 @@
+//! What a client of a cache of objects reads.
+ghost use Rattle.hcc_c.specs.ObjectCalls.{TellsCharge, TellsKey};
+ghost use Rattle.hcc_c.specs.ObjectSessions.{IsWhole};
+
+use crate::object_session::ObjectSession;
+use crate::shapes::CHandle;
+use hcc_cache::Key;
+
+impl ObjectSession {
+    /// The key of the entry that a handle is on; none where the client holds no handle of these
+    /// numbers.
+    pub fn key(&self, c_handle: CHandle) -> Option<Key>
+        requires { IsWhole self.now }
+        ensures { TellsKey c_handle result self.now }
+    {
+        let handle = self.handle(c_handle)?;
+        Some(self.cache.key(&self.client, handle))
+    }
+
+    /// What is charged for the entry that a handle is on; none where the client holds no handle of
+    /// these numbers.
+    pub fn charge(&mut self, c_handle: CHandle) -> Option<u64>
+        requires { IsWhole self.old }
+        ensures whole { IsWhole self.new }
+        ensures tells { TellsCharge c_handle result self.old self.new }
+    {
+        let handle = self.handle(c_handle)?;
+        Some(self.cache.charge(&mut self.client, handle))
+    }
+}
