@@ -100,9 +100,8 @@ bool ferretgold_raw_holds(ferretgold_object *client, const ferretgold_handle *ha
 void ferretgold_raw_stats(ferretgold_object *client, ferretgold_stats *stats);
 void ferretgold_raw_counts(ferretgold_object *client, ferretgold_counts *counts);
 
-/* A cache of objects. It and its clients stay on the thread that opened it, as does what is left of it.
- * What an entry stands for is something of the caller's: where it lies, below 2^48, and of which kind it
- * is. The library never looks there. */
+/* A cache of objects. What an entry stands for is something of the caller's: where it lies, below 2^48,
+ * and of which kind it is. The library never looks there. */
 typedef struct ferretgold_object_value {
     uint64_t address;
     uint16_t kind;
@@ -145,9 +144,8 @@ uint32_t ferretgold_raw_object_open(const ferretgold_object_config *config, uint
  * A place takes what is left of one cache. */
 uint32_t ferretgold_raw_objects_open(ferretgold_object *left);
 /* Refuses the first client that is another cache's, by OTHER_CACHE, that holds a handle, by
- * HANDLES_OUT, or on whose list something may be, by UNTAKEN: since its last insertion, release of a
- * handle or erasure `take_gone` hasn't returned MISS. Then CLIENTS_OUT. Where a client is refused, or
- * one is missing, all are in their places as before. */
+ * HANDLES_OUT, or on whose list something is, by UNTAKEN. Then CLIENTS_OUT. Where a client is refused,
+ * or one is missing, all are in their places as before. */
 uint32_t ferretgold_raw_object_close(ferretgold_object cache, ferretgold_object *clients,
                                      size_t count, ferretgold_object *left,
                                      ferretgold_object *kept);

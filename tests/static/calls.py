@@ -33,7 +33,7 @@ ALLOCATES = re.compile(
 )
 # Public functions that may allocate, since no cache runs in them; and one that says that it does.
 MAY_ALLOCATE = {
-    "hcc_cache": "Cache::new Cache::reopen Closed::image Cache::close ObjectCache::new ObjectCache::close",
+    "hcc_cache": "Cache::new Cache::reopen Closed::image Cache::close ObjectCache::new ObjectCache::close ClosingRoom::none",
     "hcc_block": "",
     "hcc_c": "ferretgold_raw_open ferretgold_raw_reopen ferretgold_raw_close ferretgold_raw_close_keeping"
     " ferretgold_raw_closed_open ferretgold_raw_closed_free ferretgold_raw_image_open"

@@ -53,7 +53,7 @@ def library_numbers():
     refusals = re.findall(r"Refusal::(\w+) => (\d+),", text)
     priorities = re.findall(r"number == (\d+) \{\s*Some\(Priority::(\w+)\)", text)
     outcomes = re.findall(r"Inserted::(\w+) => (\d+),", text)
-    if (len(refusals), len(priorities), len(outcomes)) != (23, 3, 3):
+    if (len(refusals), len(priorities), len(outcomes)) != (27, 3, 3):
         raise ValueError("refusal.rt isn't as it was")
     for name, number in refusals + [(b, a) for a, b in priorities] + outcomes:
         yield f"{upper(name)} == {number}"
@@ -65,7 +65,7 @@ def layout():
     the numbers of both."""
     asserts = [*structs(), *library_numbers()]
     lines = [f'_Static_assert({it}, "the library has {it}");' for it in asserts]
-    text = '#include "ferretgold_closed.h"\n' + "\n".join(lines) + "\n"
+    text = '#include "ferretgold_closed.h"\n#include "ferretgold_raw.h"\n' + "\n".join(lines) + "\n"
     words = ["cc", "-std=c11", "-Wall", "-Wextra", "-Werror", "-fsyntax-only", f"-I{TOP}/include"]
     how = {"text": True, "check": False, "capture_output": True}
     for ran in (subprocess.run([*words, "-x", "c", "-"], input=text, **how),

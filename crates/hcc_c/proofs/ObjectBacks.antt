@@ -12,7 +12,7 @@ use Rattle.hcc_cache.specs.declared.object_cache.ObjectClient.{ObjectClient}
 use Rattle.hcc_cache.specs.declared.object_opening.ObjectConfig.{ObjectConfig}
 use Rattle.hcc_cache.specs.declared.objects_left.ObjectsLeft.{ObjectsLeft}
 use Rattle.hcc_cache.specs.Objects.{client_of}
-use Rattle.hcc_cache.specs.ObjectsClosed.{AreAllBack, handles_of}
+use Rattle.hcc_cache.specs.ObjectsClosed.{AreAllBack, handles_of, untaken_of}
 use Rattle.hcc_cache.specs.ObjectsOpened.{IsOpenedFor}
 use Rattle.hcc_c.specs.declared.object_pool.ObjectPool.{ObjectPool}
 use Rattle.hcc_c.specs.declared.object_session.ObjectSession.{ObjectSession}
@@ -78,12 +78,12 @@ fit_back cache number (None ∷ rest) fit ok = absurd fit.0
 fit_back cache number (Some session ∷ rest) fit ok =
     let both = first_ok (judged_back number session) (judged_each number rest) ok in
     let tests = three_tests (session.cache_number == number) (handles_of session.client == 0)
-    session.drained Untaken HandlesOut OtherCache both.0 in
+    (untaken_of session.client == 0) Untaken HandlesOut OtherCache both.0 in
     let mine = eqb-true session.cache_number number tests.0 in (
       record {
         known = rw (fit.0.1 mine) at fit.0.0.knows;
         none = eqb-true (handles_of session.client) 0 tests.1;
-        taken = fit.0.0.drained tests.2;
+        taken = eqb-true (untaken_of session.client) 0 tests.2;
       },
       fit_back cache number rest fit.1 both.1,
     )
@@ -118,6 +118,7 @@ whole_with pool held back whole fit ok items capacity = record {
   there = rw items (with_held pool.cache pool.number pool.config pool.back.items held
       whole.there fit ok);
   room = rw capacity whole.room;
+  closing = whole.closing;
 }
 
 -- Clients of which each is taken back, and that are as many as are out, end the cache.

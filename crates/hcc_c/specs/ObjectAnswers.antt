@@ -1,4 +1,4 @@
--- How C is told what a call of a cache of objects answers: the status, and what each output is then.
+-- How C is told what a call of a cache of objects answers: the status, and what each output is.
 use Rattle.std.specs.Prelude.{ℕ, Bool, false, Option, Some, None, Result, Ok, Err}
 use Rattle.hcc_rule.specs.declared.key.Key.{Key as CacheKey}
 use Rattle.hcc_cache.specs.declared.errors.LookupError.{LookupError}

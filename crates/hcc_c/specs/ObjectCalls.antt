@@ -30,11 +30,9 @@ use Rattle.hcc_c.specs.ObjectCounts.{counted_look, counted_pinned, counted_put}
 use Rattle.hcc_c.specs.ObjectSessions.{IsHandle, IsNone, below, client_in, judged}
 use Rattle.hcc_c.specs.Shapes.{c_handle_of}
 
--- Nothing of the session changed but its client, whether its list was seen to be empty is this, and
--- the counts are these.
-abbrev pub Keeps : (drained : Bool) → Counts → (old new : ObjectSession) → Type 0
-Keeps drained counts old new =
-    new ≡ record old { client = new.client; drained = drained; counts = counts }
+-- Nothing of the session changed but its client, and the counts are these.
+abbrev pub Keeps : Counts → (old new : ObjectSession) → Type 0
+Keeps counts old new = new ≡ record old { client = new.client; counts = counts }
 
 -- as many atomic steps at most
 abbrev pub Within : ℕ → (old new : ObjectSession) → Type 0
@@ -55,7 +53,7 @@ pub record LooksUp (key : Key) (answer : Result (Option (CHandle × Object)) Loo
   pub missed : IfOk answer (λ o. IfNone o
       (Misses (below old) key (client_in old) (client_in new)))
   pub list : new.client.gone ≡ old.client.gone
-  pub rest : Keeps old.drained (counted_look answer old.counts) old new
+  pub rest : Keeps (counted_look answer old.counts) old new
   pub steps : Within (7 * (below old).geometry.slots + 1) old new
 
 -- One handle more on the entry of the handle of these numbers; none where it is that of none.
@@ -73,7 +71,7 @@ pub record RefersAgain (c_handle : CHandle) (answer : Option (Result CHandle Loo
       × Rerefs (below old) was handle (client_in old) (client_in new)
       × (more ≡ c_handle_of old.cache_number handle)))
   pub list : new.client.gone ≡ old.client.gone
-  pub rest : Keeps old.drained old.counts old new
+  pub rest : Keeps old.counts old new
   pub steps : Within 2 old new
 
 -- The handle of these numbers is given back; none where it is that of none. What is freed is on the
@@ -84,7 +82,7 @@ pub record GivesBack (c_handle : CHandle) (erase : Bool) (answer : Option Bool)
   pub released : IfSome answer (λ freed. (handle : Handle) × IsHandle old c_handle handle
       × Releases (below old) handle erase freed (client_in old) (client_in new)
       × HandsBack (arc_value old.cache) handle freed old.client new.client)
-  pub rest : IfSome answer (λ _. Keeps false old.counts old new)
+  pub rest : IfSome answer (λ _. Keeps old.counts old new)
   pub steps : Within (freeing (below old).geometry.slots + 4) old new
 
 -- Each visible entry of a key is hidden. What is freed is on the client's list.
@@ -95,7 +93,7 @@ pub record Hides (key : Key) (hidden : ℕ) (old new : ObjectSession) : Type 0 w
   pub searched : ErasesListed (below old) is_word key (has_room 1 (shelf_of new.client)) hidden
       (client_in old) (client_in new)
   pub counts : CountsAt (shard_in (below old) key) (client_in old) (client_in new)
-  pub rest : Keeps false old.counts old new
+  pub rest : Keeps old.counts old new
   pub steps : Within ((freeing (below old).geometry.slots + 10) * (below old).geometry.slots + 2)
       old new
 
@@ -107,8 +105,7 @@ pub record TakesGone (answer : Option (Key × Object)) (old new : ObjectSession)
       × (gone.1 ≡ object_of freed.word))
   pub none : IfNone answer ((gone_of old.client ≡ []) × (new.client ≡ old.client))
   pub same : client_in new ≡ client_in old
-  pub taken : IfSome answer (λ _. Keeps false old.counts old new)
-  pub drained : IfNone answer (Keeps true old.counts old new)
+  pub rest : Keeps old.counts old new
 
 -- The key of the handle of these numbers is told; none where it is that of none.
 pub record TellsKey (c_handle : CHandle) (answer : Option Key) (session : ObjectSession)
@@ -128,7 +125,7 @@ pub record TellsCharge (c_handle : CHandle) (answer : Option ℕ) (old new : Obj
   pub reads : IfSome answer (λ _. Reads (below old) (client_in old) (client_in new))
   pub stays : IfSome answer (λ _. Stays (below old) (client_in old) (client_in new))
   pub list : new.client.gone ≡ old.client.gone
-  pub rest : Keeps old.drained old.counts old new
+  pub rest : Keeps old.counts old new
   pub steps : Within 1 old new
 
 module _ (key : Key) (object : Object) (charge : ℕ) (priority : Priority) where
@@ -155,7 +152,7 @@ module _ (key : Key) (object : Object) (charge : ℕ) (priority : Priority) wher
         → (told : _) × (a ≡ answer_as (is_full new.client) told)
         × InsertsObject (arc_value old.cache) key object charge priority old.client new.client
         told)
-    pub rest : IfOk answer (λ _. Keeps false (counted_put answer old.counts) old new)
+    pub rest : IfOk answer (λ _. Keeps (counted_put answer old.counts) old new)
     pub steps : InsertsWithin old new
 
   -- An insertion with a handle.
@@ -187,5 +184,5 @@ module _ (key : Key) (object : Object) (charge : ℕ) (priority : Priority) wher
         (λ why. (told : _) × (why ≡ refused_as (is_full new.client) told)
         × FailsObject (arc_value old.cache) key object charge priority old.client new.client
         told))
-    pub rest : IfOk answer (λ _. Keeps false (counted_pinned answer old.counts) old new)
+    pub rest : IfOk answer (λ _. Keeps (counted_pinned answer old.counts) old new)
     pub steps : InsertsWithin old new

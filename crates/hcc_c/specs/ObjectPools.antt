@@ -10,7 +10,7 @@ use Rattle.hcc_cache.specs.declared.objects_left.ObjectsLeft.{ObjectsLeft}
 use Rattle.hcc_cache.specs.Configs.{shard_geometry}
 use Rattle.hcc_cache.specs.ObjectConfigs.{checked_objects, plain}
 use Rattle.hcc_cache.specs.Objects.{KnowsObjects}
-use Rattle.hcc_cache.specs.ObjectsClosed.{AreAllBack, LeavesObjects, handles_of, untaken_of}
+use Rattle.hcc_cache.specs.ObjectsClosed.{AreAllBack, LeavesObjects, handles_of, places_in, untaken_of}
 use Rattle.hcc_cache.specs.ObjectsOpened.{IsOpenedFor}
 use Rattle.hcc_c.specs.declared.kept_objects.KeptObjects.{KeptObjects}
 use Rattle.hcc_c.specs.declared.object_holders.ObjectClientPlace.{ObjectClientPlace}
@@ -59,16 +59,16 @@ abbrev pub IfOpen : ObjectPool → (ObjectCache → Type 0) → Type 0
 IfOpen pool Holds = IsSomeAnd pool.cache (λ cache. Holds (arc_value cache))
 
 -- What holds of a cache between any two calls: it is there and as configured, each client that is
--- back is one of it, holds no handle and has nothing on its list, and there is room for all of them.
+-- back is one of it, holds no handle and has nothing on its list, and there is room for all.
 pub record IsWholePool (pool : ObjectPool) : Type 0 where
   pub there : IfOpen pool (Has pool.config pool.back.items)
   pub room : pool.config.clients ≤ vec_capacity pool.back
+  pub closing : pool.config.clients ≤ places_in pool.room
 
 -- a session that begins: it works on this cache, which it knows by this number
 pub record IsNew (cache : ObjectCache) (number : ℕ) (session : ObjectSession) : Type 0 where
   pub cache_is : arc_value session.cache ≡ cache
   pub number_is : session.cache_number ≡ number
-  pub drained : session.drained ≡ true
   pub counts : session.counts ≡ no_counts
   pub whole : IsWhole session
 
@@ -100,7 +100,8 @@ pub record Opens (config : ObjectConfig) (number : ℕ) (pool : ObjectPool)
 
 -- A cache is opened, and all its clients are given out.
 pub record OpensAs (config : ObjectConfig) (number : ℕ)
-    (answer : Result (Box ObjectPool Global) Refusal) (old new : List ObjectClientPlace) : Type 0 where
+    (answer : Result (Box ObjectPool Global) Refusal) (old new : List ObjectClientPlace)
+    : Type 0 where
   pub refused : IfErr (checked_objects config) (λ e. answer ≡ Err (opening_objects_of e))
   pub memory : OnOk (checked_objects config) (IsOkUnless answer OutOfMemory)
   pub nothing : OnErr answer (new ≡ old)
@@ -118,13 +119,13 @@ IsFit pool held = IsSomeAnd held (λ session. IsWhole session
 abbrev pub AreFit : ObjectPool → List (Option ObjectSession) → Type 0
 AreFit pool held = Each (IsFit pool) held
 
--- why a client isn't taken back by the cache of this number: it is another's, holds a handle, or has
--- something on its list, for all that is known
+-- why a client isn't taken back by the cache of this number: it is another's, holds a handle, or
+-- has something on its list
 abbrev pub judged_back : (number : ℕ) → ObjectSession → Result (Unit {0}) Refusal
 judged_back number session =
     if session.cache_number == number
     then (if handles_of session.client == 0
-    then (if session.drained then Ok tt else Err Untaken) else Err HandlesOut)
+    then (if untaken_of session.client == 0 then Ok tt else Err Untaken) else Err HandlesOut)
     else Err OtherCache
 
 -- that of the first client which isn't taken back

@@ -1,5 +1,5 @@
 -- A client of a cache of objects in the hands of C, and its handles by their numbers.
-use Rattle.std.specs.Prelude.{◌≡◌, ℕ, ◌==◌, true, Result, Ok, Err, if◌then◌else◌}
+use Rattle.std.specs.Prelude.{◌≡◌, ℕ, ◌==◌, Result, Ok, Err, if◌then◌else◌}
 use Rattle.std.specs.Arc.{arc_value}
 use Rattle.hcc_cache.specs.declared.cache.Cache.{Cache}
 use Rattle.hcc_cache.specs.declared.client.Client.{Client}
@@ -8,7 +8,6 @@ use Rattle.hcc_cache.specs.declared.handle.Handle.{Handle}
 use Rattle.hcc_cache.specs.Clients.{Holds}
 use Rattle.hcc_cache.specs.Handles.{HoldsNone}
 use Rattle.hcc_cache.specs.Objects.{KnowsObjects}
-use Rattle.hcc_cache.specs.ObjectsClosed.{untaken_of}
 use Rattle.hcc_c.specs.declared.inserting.Unfit.{Unfit}
 use Rattle.hcc_c.specs.declared.inserting.Unfit.TheVariants.{NoCharge}
 use Rattle.hcc_c.specs.declared.object_session.ObjectSession.{ObjectSession}
@@ -16,11 +15,9 @@ use Rattle.hcc_c.specs.declared.shapes.CHandle.{CHandle}
 use Rattle.hcc_c.specs.Sessions.{handle_in}
 use Rattle.hcc_c.specs.Shapes.{parts_in}
 
--- What holds of a client between any two of its calls: its cache knows it, and where its list was
--- seen to be empty, nothing is on it.
+-- What holds of a client between any two of its calls: its cache knows it.
 pub record IsWhole (session : ObjectSession) : Type 0 where
   pub knows : KnowsObjects (arc_value session.cache) session.client
-  pub drained : session.drained ≡ true → untaken_of session.client ≡ 0
 
 -- the cache of bytes below, and its client
 abbrev pub below : ObjectSession → Cache Objects

@@ -21,7 +21,8 @@ IsPast (Some left) = length left.closed.shards.items ≤ left.shard
 pub record GivesNext (answer : Option (Key × Object)) (old new : Option ObjectsLeft) : Type 0 where
   pub some : IfSome answer (λ given. left_in old ≡ given ∷ left_in new)
   pub none : IfNone answer ((left_in old ≡ []) × IsPast new)
-  pub same : option_map (λ (left : ObjectsLeft). left.closed) new ≡ option_map (λ (left : ObjectsLeft). left.closed) old
+  pub same : option_map (λ (left : ObjectsLeft). left.closed) new
+      ≡ option_map (λ (left : ObjectsLeft). left.closed) old
 
 -- The walk is ended: nothing is left. It is refused where `next` hasn't said so.
 pub record EndsWalk (answer : Result (Unit {0}) Refusal) (left : Option ObjectsLeft) : Type 0 where

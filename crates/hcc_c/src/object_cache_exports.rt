@@ -69,8 +69,8 @@ pub extern "C" fn ferretgold_raw_objects_open(alloc: Global, kept: &mut KeptObje
 
 /// Takes all clients back and ends the cache, and keeps what is left of it. No two caches that are
 /// open have one number: so a client that has this cache's number is one of it. Where the cache
-/// isn't ended, `kept` has it; if a client is the reason, or one is missing, all are in their places
-/// still.
+/// isn't ended, `kept` has it; if a client is the reason, or one is missing, all are in their
+/// places still.
 #[unsafe(no_mangle)]
 pub extern "C" fn ferretgold_raw_object_close(
     alloc: Global,

@@ -58,7 +58,6 @@ fn new_session(
         cache,
         client,
         cache_number: number,
-        drained: true,
         counts: Counts::none(),
     };
     match Box::new(alloc, session) {
@@ -118,7 +117,7 @@ fn judged(session: &ObjectSession, number: u32) -> Result<(), Refusal>
     if session.client.client().held() != 0 {
         return Err(Refusal::HandlesOut);
     }
-    if !session.drained {
+    if session.client.untaken() != 0 {
         return Err(Refusal::Untaken);
     }
     Ok(())

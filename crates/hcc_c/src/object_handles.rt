@@ -49,7 +49,6 @@ impl ObjectSession {
         ensures released { GivesBack c_handle erase_if_last result self.old self.new }
     {
         let handle = self.handle(c_handle)?;
-        self.drained = false;
         let client = &mut self.client;
         Some(self.cache.release(client, handle, useful, erase_if_last))
     }
@@ -61,7 +60,6 @@ impl ObjectSession {
         ensures whole { IsWhole self.new }
         ensures hides { Hides key result self.old self.new }
     {
-        self.drained = false;
         self.cache.erase(&mut self.client, key)
     }
 
@@ -72,8 +70,7 @@ impl ObjectSession {
         ensures whole { IsWhole self.new }
         ensures takes { TakesGone result self.old self.new }
     {
-        let gone = self.cache.take_gone(&mut self.client);
-        self.drained = gone.is_none();
-        Some(gone?.take())
+        let gone = self.cache.take_gone(&mut self.client)?;
+        Some(gone.take())
     }
 }

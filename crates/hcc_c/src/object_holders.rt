@@ -20,8 +20,7 @@ use crate::objects::Loose;
 use std::alloc::Global;
 use std::marker::Model;
 
-/// A client behind a pointer. It stays on the thread that opened the cache: `ObjectCache` isn't shared
-/// by threads.
+/// A client behind a pointer.
 #[repr(C)]
 pub struct ObjectClientAt {
     at: *mut u8,
@@ -46,7 +45,9 @@ impl ObjectClientAt {
     }
 }
 
-/// A cache behind a pointer. It stays on the thread that opened it.
+unsafe impl Send for ObjectClientAt {}
+
+/// A cache behind a pointer.
 #[repr(C)]
 pub struct ObjectCacheAt {
     at: *mut u8,
@@ -68,6 +69,8 @@ impl ObjectCacheAt {
         unsafe { Box::from_raw(alloc, at as *mut ObjectPool) }
     }
 }
+
+unsafe impl Send for ObjectCacheAt {}
 
 /// What is left of a cache, behind a pointer. It stays on the thread that closed the cache.
 #[repr(C)]
@@ -187,4 +190,12 @@ impl KeptObjectsPlace {
         let Loose { at } = kept;
         KeptObjectsPlace { at: at as *mut u8 }
     }
+}
+
+fn crosses<T: Send>(_x: &T) {}
+
+/// A cache and a client may go to other threads. Nothing calls this: the compiler judges it.
+pub fn holders_cross(cache: &ObjectCacheAt, client: &ObjectClientAt) {
+    crosses(cache);
+    crosses(client);
 }

@@ -23,7 +23,6 @@ impl ObjectSession {
         ensures puts { Puts key object charge priority result self.old self.new }
     {
         judge(charge)?;
-        self.drained = false;
         let client = &mut self.client;
         let answer = self.cache.insert(client, key, object, charge, priority);
         self.counts.put(answer);
@@ -43,7 +42,6 @@ impl ObjectSession {
         ensures puts { PutsPinned key object charge priority result self.old self.new }
     {
         judge(charge)?;
-        self.drained = false;
         let client = &mut self.client;
         let answer = self
             .cache

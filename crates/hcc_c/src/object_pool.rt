@@ -1,6 +1,6 @@
 //! A cache of objects in the hands of C, which has all its clients from the opening to the closing.
-ghost use Rattle.std.specs.Prelude.{◌≡◌, IfErr, IfOk, IsOkUnless, None, OnErr, length};
-ghost use Rattle.hcc_cache.specs.ObjectsClosed.{AreAllBack, LeavesObjects};
+ghost use Rattle.std.specs.Prelude.{◌≡◌, ◌≤◌, IfErr, IfOk, IsOkUnless, None, OnErr, length};
+ghost use Rattle.hcc_cache.specs.ObjectsClosed.{AreAllBack, LeavesObjects, places_in};
 ghost use Rattle.hcc_rule.specs.Views.{Each};
 ghost use Rattle.hcc_c.specs.ObjectPools.{AreFit, BeginsWith, Closes, EndsKept, EndsWith, IsBack, IsSized, IsWholePool, OpensAs, held_in};
 
@@ -8,7 +8,7 @@ use crate::kept_objects::KeptObjects;
 use crate::object_handing::{give_each, judge_each, new_sessions, take_each};
 use crate::object_holders::ObjectClientPlace;
 use crate::refusal::Refusal;
-use hcc_cache::{ObjectCache, ObjectClient, ObjectConfig, ObjectsLeft};
+use hcc_cache::{ClosingRoom, ObjectCache, ObjectClient, ObjectConfig, ObjectsLeft};
 use std::alloc::Global;
 use std::mem;
 use std::sync::Arc;
@@ -20,6 +20,8 @@ pub struct ObjectPool {
     pub(crate) cache: Option<Arc<ObjectCache, Global>>,
     /// The clients that are back: room for all, so that closing allocates nothing.
     pub(crate) back: Vec<ObjectClient>,
+    /// What the cache's own closing needs.
+    pub(crate) room: ClosingRoom,
     pub(crate) config: ObjectConfig,
     /// The cache's number, among those that are open.
     pub(crate) number: u32,
@@ -37,11 +39,11 @@ impl ObjectPool {
         requires { length clients.old ≡ config.clients }
         ensures opens { OpensAs config number result clients.old clients.new }
     {
-        let (cache, made) = match ObjectCache::new(alloc, config) {
+        let (cache, made, room) = match ObjectCache::new(alloc, config) {
             Ok(made) => made,
             Err(why) => return Err(Refusal::opening_objects(why)),
         };
-        match ObjectPool::of(alloc, cache, made, config, number, clients) {
+        match ObjectPool::of(alloc, cache, made, room, config, number, clients) {
             Ok(pool) => Ok(pool),
             Err(why) => Err(why),
         }
@@ -52,11 +54,13 @@ impl ObjectPool {
         alloc: Global,
         cache: ObjectCache,
         made: Vec<ObjectClient>,
+        room: ClosingRoom,
         config: ObjectConfig,
         number: u32,
         clients: &mut [ObjectClientPlace],
     ) -> Result<Box<ObjectPool>, Refusal>
         requires sized { IsSized cache config }
+        requires room { config.clients ≤ places_in room }
         requires back { Each (IsBack cache) made.items }
         requires count { length made.items ≡ length clients.old }
         ensures memory { IsOkUnless result Refusal.OutOfMemory }
@@ -78,6 +82,7 @@ impl ObjectPool {
         let pool = ObjectPool {
             cache: Some(cache),
             back,
+            room,
             config,
             number,
         };
@@ -91,9 +96,8 @@ impl ObjectPool {
     /// Takes all clients back, ends the cache, and keeps what is left of it.
     ///
     /// It is refused by the first client whose cache has another number, or which holds a handle,
-    /// or whose list may have something, since `take_gone` didn't say after the client's last
-    /// insertion, release or erasure that nothing is there; then where clients of the cache are
-    /// missing. Nothing is changed then.
+    /// or on whose list something is; then where clients of the cache are missing. Nothing is
+    /// changed then.
     pub fn close(
         &mut self,
         alloc: Global,
@@ -150,7 +154,8 @@ impl ObjectPool {
         match Arc::try_unwrap(cache) {
             Ok(cache) => {
                 let back = mem::replace(&mut self.back, Vec::new(alloc));
-                Ok(closed(cache, back))
+                let room = mem::replace(&mut self.room, ClosingRoom::none(alloc));
+                Ok(closed(cache, back, room))
             }
             Err(cache) => {
                 self.cache = Some(cache);
@@ -161,11 +166,12 @@ impl ObjectPool {
 }
 
 /// What is left of a cache whose clients are back, with no handle and nothing on a list.
-fn closed(cache: ObjectCache, back: Vec<ObjectClient>) -> ObjectsLeft
-    requires { AreAllBack cache back.items }
+fn closed(cache: ObjectCache, back: Vec<ObjectClient>, room: ClosingRoom) -> ObjectsLeft
+    requires back { AreAllBack cache back.items }
+    requires room { cache.cache.geometry.clients ≤ places_in room }
     ensures { LeavesObjects cache back.items result }
 {
-    match cache.close(back) {
+    match cache.close(back, room) {
         Ok(left) => left,
         Err(_) => unreachable!(),
     }

@@ -14,9 +14,6 @@ pub struct ObjectSession {
     pub(crate) client: ObjectClient,
     /// The number of its cache, among those that are open.
     pub(crate) cache_number: u32,
-    /// Whether nothing is on the client's list for sure: `take_gone` said so, and no call was made
-    /// since that may put something there.
-    pub(crate) drained: bool,
     /// What its look-ups and insertions came to.
     pub(crate) counts: Counts,
 }

@@ -1,13 +1,18 @@
 -- When a cache of objects is closed, and what it leaves.
-use Rattle.std.specs.Prelude.{◌≡◌, ◌≢◌, ℕ, List, Some, length, map, slice_get}
+use Rattle.std.specs.Prelude.{◌≡◌, ◌≢◌, ℕ, List, Some, length, map, slice_get, vec_capacity}
 use Rattle.hcc_cache.specs.declared.errors.ObjectCloseError.{ObjectCloseError}
 use Rattle.hcc_cache.specs.declared.errors.ObjectCloseError.TheVariants.{Missing, HandlesOut, Untaken}
+use Rattle.hcc_cache.specs.declared.object_cache.ClosingRoom.{ClosingRoom}
 use Rattle.hcc_cache.specs.declared.object_cache.ObjectCache.{ObjectCache}
 use Rattle.hcc_cache.specs.declared.object_cache.ObjectClient.{ObjectClient}
 use Rattle.hcc_cache.specs.declared.objects_left.ObjectsLeft.{ObjectsLeft}
 use Rattle.hcc_cache.specs.Clients.{held_by}
 use Rattle.hcc_cache.specs.Closings.{IsClosed, IsLeastOf, NoneHas}
 use Rattle.hcc_cache.specs.Objects.{KnowsObjects, client_of, is_word}
+
+-- how many clients there is room for
+abbrev pub places_in : ClosingRoom → ℕ
+places_in room = vec_capacity room.back
 
 -- how many handles a client holds, and how many entries are on its list
 abbrev pub handles_of : ObjectClient → ℕ

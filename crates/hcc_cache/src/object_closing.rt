@@ -1,12 +1,21 @@
 //! A cache of objects is closed, by all its clients.
-ghost use Rattle.std.specs.Prelude.{◌≡◌, MatchResult, IfErr, IfNone, IfSome, OnOk, slice_get, Some};
+ghost use Rattle.std.specs.Prelude.{◌≡◌, ◌≤◌, MatchResult, IfErr, IfNone, IfSome, OnOk, slice_get, Some};
 ghost use Rattle.hcc_cache.specs.Closings.{with_holder};
 ghost use Rattle.hcc_cache.specs.Objects.{KnowsObjects};
-ghost use Rattle.hcc_cache.specs.ObjectsClosed.{AreAllBack, IsLeastWith, LeavesObjects, NoneWith, RefusesObjects, handles_of, untaken_of};
+ghost use Rattle.hcc_cache.specs.ObjectsClosed.{AreAllBack, IsLeastWith, LeavesObjects, NoneWith, RefusesObjects, handles_of, places_in, untaken_of};
 
 use crate::errors::ObjectCloseError;
-use crate::object_cache::{ObjectCache, ObjectClient};
+use crate::object_cache::{ClosingRoom, ObjectCache, ObjectClient};
 use crate::objects_left::ObjectsLeft;
+
+/// A cache of objects that wasn't closed, and why: all is handed back.
+#[derive(Drop)]
+pub struct StaysOpen {
+    pub why: ObjectCloseError,
+    pub cache: ObjectCache,
+    pub clients: Vec<ObjectClient>,
+    pub room: ClosingRoom,
+}
 
 impl ObjectCache {
     /// Ends the cache, once all its clients are back, none holds a handle and nothing is on a list.
@@ -20,17 +29,24 @@ impl ObjectCache {
     pub fn close(
         self,
         clients: Vec<ObjectClient>,
-    ) -> Result<ObjectsLeft, (ObjectCloseError, ObjectCache, Vec<ObjectClient>)>
-        requires { (k : _) (client : ObjectClient) → slice_get clients.items k ≡ Some client
+        room: ClosingRoom,
+    ) -> Result<ObjectsLeft, StaysOpen>
+        requires known { (k : _) (client : ObjectClient) → slice_get clients.items k ≡ Some client
             → KnowsObjects self client }
+        requires room { self.cache.geometry.clients ≤ places_in room }
         ensures { MatchResult result
             (λ left. AreAllBack self clients.items × LeavesObjects self clients.items left)
-            (λ refused. RefusesObjects refused.0 self clients.items
-            × (refused.1 ≡ self) × (refused.2 ≡ clients)) }
+            (λ it. RefusesObjects it.why self clients.items
+            × (it.cache ≡ self) × (it.clients ≡ clients) × (it.room ≡ room)) }
     {
         match self.may_close(&clients) {
-            Ok(()) => Ok(self.closed(clients)),
-            Err(why) => Err((why, self, clients)),
+            Ok(()) => Ok(self.closed(clients, room)),
+            Err(why) => Err(StaysOpen {
+                why,
+                cache: self,
+                clients,
+                room,
+            }),
         }
     }
 
@@ -56,11 +72,13 @@ impl ObjectCache {
     }
 
     /// The same, where all came back with no handle and with nothing on a list.
-    fn closed(self, clients: Vec<ObjectClient>) -> ObjectsLeft
-        requires { AreAllBack self clients.items }
+    fn closed(self, clients: Vec<ObjectClient>, room: ClosingRoom) -> ObjectsLeft
+        requires back { AreAllBack self clients.items }
+        requires room { self.cache.geometry.clients ≤ places_in room }
         ensures { LeavesObjects self clients.items result }
     {
-        let ObjectCache { cache, mut back } = self;
+        let ObjectCache { cache } = self;
+        let ClosingRoom { mut back } = room;
         for ObjectClient { client, gone: _ } in clients {
             back.push_reserved(client);
         }

@@ -1,7 +1,8 @@
 //! A new cache of objects.
-ghost use Rattle.std.specs.Prelude.{◌≡◌, Err, IfErr, IfOk, IsOkUnless, OnOk};
+ghost use Rattle.std.specs.Prelude.{◌≡◌, ◌≤◌, Err, IfErr, IfOk, IsOkUnless, OnOk};
 ghost use Rattle.hcc_cache.specs.Configs.{IsAllowed, checked};
 ghost use Rattle.hcc_cache.specs.ObjectConfigs.{AllowsGone, checked_objects, plain};
+ghost use Rattle.hcc_cache.specs.ObjectsClosed.{places_in};
 ghost use Rattle.hcc_cache.specs.ObjectsOpened.{AreListed, IsOpenedFor};
 
 use crate::cache::Cache;
@@ -10,7 +11,7 @@ use crate::config::Config;
 use crate::errors::{NewError, ObjectNewError};
 use crate::gone::{GoneList, Objects};
 use crate::limits::{FEWEST_GONE, MOST_GONE};
-use crate::object_cache::{ObjectCache, ObjectClient};
+use crate::object_cache::{ClosingRoom, ObjectCache, ObjectClient};
 use std::alloc::{AllocError, Global};
 
 /// How large a cache of objects is, and how it behaves: the numbers of [`Config`] but the room, and
@@ -76,13 +77,14 @@ impl ObjectCache {
     ///
     /// It refuses what [`ObjectConfig::check`] refuses, and else only where memory is refused;
     /// nothing remains then. Of the cache's calls it alone allocates memory: beside what
-    /// `Cache::new` does for each client the places of its list, 24 bytes each, and one word for
-    /// each field of a client where closing gathers them.
+    /// `Cache::new` does for each client the places of its list, 24 bytes each, and room for it
+    /// where closing gathers the clients: that room is returned, too.
     pub fn new(
         alloc: Global,
         config: ObjectConfig,
-    ) -> Result<(ObjectCache, Vec<ObjectClient>), ObjectNewError>
+    ) -> Result<(ObjectCache, Vec<ObjectClient>, ClosingRoom), ObjectNewError>
         ensures made { IfOk result (λ made. IsOpenedFor config made.0 made.1.items) }
+        ensures room { IfOk result (λ made. made.0.cache.geometry.clients ≤ places_in made.2) }
         ensures refused { IfErr (checked_objects config) (λ e. result ≡ Err e) }
         ensures memory { OnOk (checked_objects config)
             (IsOkUnless result (ObjectNewError.Bad NewError.OutOfMemory)) }
@@ -98,15 +100,16 @@ impl ObjectCache {
     fn opened(
         alloc: Global,
         config: ObjectConfig,
-    ) -> Result<(ObjectCache, Vec<ObjectClient>), AllocError>
+    ) -> Result<(ObjectCache, Vec<ObjectClient>, ClosingRoom), AllocError>
         requires allowed { IsAllowed (plain config) }
         requires gone { AllowsGone config }
-        ensures { IfOk result (λ made. IsOpenedFor config made.0 made.1.items) }
+        ensures made { IfOk result (λ made. IsOpenedFor config made.0 made.1.items) }
+        ensures room { IfOk result (λ made. made.0.cache.geometry.clients ≤ places_in made.2) }
     {
         let (cache, clients) = Cache::opened(alloc, config.plain(), Objects)?;
-        let back = Vec::with_capacity(alloc, config.clients as usize)?;
+        let room = ClosingRoom::open(alloc, config.clients)?;
         let clients = listed(alloc, clients, config)?;
-        Ok((ObjectCache { cache, back }, clients))
+        Ok((ObjectCache { cache }, clients, room))
     }
 }
 

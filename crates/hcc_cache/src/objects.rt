@@ -3,6 +3,7 @@ ghost use Rattle.std.specs.Prelude.{◌≡◌, ◌^◌, ◌<◌, ◌++◌, ◌�
 ghost use Rattle.hcc_word.specs.declared.objects.TheConstants.{ADDRESS_BITS};
 ghost use Rattle.hcc_cache.specs.Keys.{key_from};
 ghost use Rattle.hcc_cache.specs.Objects.{KnowsObjects, gone_of, object_of, object_word};
+ghost use Rattle.hcc_cache.specs.ObjectsClosed.{untaken_of};
 
 use crate::client::Client;
 use crate::gone::Objects;
@@ -67,6 +68,13 @@ impl ObjectClient {
         ensures { result.now ≡ self.now.client }
     {
         &self.client
+    }
+
+    /// How many objects are on its list, to be taken. It costs a copy.
+    pub fn untaken(&self) -> usize
+        ensures { result ≡ untaken_of self.now }
+    {
+        self.gone.len()
     }
 }
 

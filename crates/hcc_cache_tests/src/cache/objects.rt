@@ -1,10 +1,11 @@
 //! Objects: what each call answers, and what is handed back.
-ghost use Rattle.std.specs.Prelude.{◌≡◌, ◌∷◌, [], ℕ, Err, Some, slice_get};
+ghost use Rattle.std.specs.Prelude.{◌≡◌, ◌≤◌, ◌∷◌, [], ℕ, Err, Some, slice_get};
 ghost use Rattle.hcc_cache.specs.Objects.{KnowsObjects};
+ghost use Rattle.hcc_cache.specs.ObjectsClosed.{places_in};
 
 use hcc_cache::{
-    Handle, Key, Object, ObjectCache, ObjectClient, ObjectCloseError, ObjectConfig, ObjectError,
-    ObjectsLeft, Placing, Priority,
+    ClosingRoom, Handle, Key, Object, ObjectCache, ObjectClient, ObjectCloseError, ObjectConfig,
+    ObjectError, ObjectsLeft, Placing, Priority, StaysOpen,
 };
 use std::alloc::Global;
 use std::process::Abort;
@@ -34,17 +35,18 @@ fn object(number: u16) -> Object {
     }
 }
 
-/// A new cache, and its client.
-fn begins(rt: &impl Abort, alloc: Global) -> (ObjectCache, ObjectClient)
-    ensures { KnowsObjects result.0 result.1 }
+/// A new cache, its client, and what its closing needs.
+fn begins(rt: &impl Abort, alloc: Global) -> (ObjectCache, ObjectClient, ClosingRoom)
+    ensures known { KnowsObjects result.0 result.1 }
+    ensures room { result.0.cache.geometry.clients ≤ places_in result.2 }
 {
-    let Ok((cache, mut clients)) = ObjectCache::new(alloc, SMALL) else {
+    let Ok((cache, mut clients, room)) = ObjectCache::new(alloc, SMALL) else {
         panic!(rt; "no cache is made")
     };
     let Some(me) = clients.pop() else {
         panic!(rt; "there is no client")
     };
-    (cache, me)
+    (cache, me, room)
 }
 
 /// The newest object on the client's list.
@@ -72,10 +74,23 @@ fn gives_back(
     cache.release(client, handle, true, false)
 }
 
+fn is_shared<T: Sync>(_x: &T) {}
+
+fn crosses<T: Send>(_x: &T) {}
+
+/// Threads share a cache, and a client may go to another one. Nothing calls this: the compiler
+/// judges it.
+pub fn objects_cross(cache: &ObjectCache, client: &ObjectClient, room: &ClosingRoom) {
+    is_shared(cache);
+    crosses(cache);
+    crosses(client);
+    crosses(room);
+}
+
 /// An entry that was erased while it was held comes back with its last handle, and no earlier.
 #[test]
 fn an_object_comes_back_with_its_last_handle(rt: HostRuntime) {
-    let (cache, mut me) = begins(&rt, rt.alloc());
+    let (cache, mut me, _room) = begins(&rt, rt.alloc());
     let placed = cache.insert(&mut me, key(1), object(9), 10, Priority::Low);
     assert_eq!(rt; placed, Ok(Placing::Placed));
     let Ok(Some((handle, found))) = cache.lookup(&mut me, key(1)) else {
@@ -96,7 +111,7 @@ fn an_object_comes_back_with_its_last_handle(rt: HostRuntime) {
 /// is placed.
 #[test]
 fn a_full_list_is_told_of(rt: HostRuntime) {
-    let (cache, mut me) = begins(&rt, rt.alloc());
+    let (cache, mut me, _room) = begins(&rt, rt.alloc());
     for number in 0u16..6 {
         let placed = cache.insert(
             &mut me,
@@ -132,7 +147,7 @@ fn a_full_list_is_told_of(rt: HostRuntime) {
 /// the list then, which has a place for it; where none is left no such insertion is begun.
 #[test]
 fn an_object_that_stands_alone_comes_back(rt: HostRuntime) {
-    let (cache, mut me) = begins(&rt, rt.alloc());
+    let (cache, mut me, _room) = begins(&rt, rt.alloc());
     for number in 0u16..6 {
         let placed = cache.insert(
             &mut me,
@@ -175,12 +190,7 @@ fn an_object_that_stands_alone_comes_back(rt: HostRuntime) {
 }
 
 /// The one client of a cache, by itself.
-fn alone(
-    rt: &impl Abort,
-    alloc: Global,
-    cache: &ObjectCache,
-    me: ObjectClient,
-) -> Vec<ObjectClient>
+fn alone(rt: &impl Abort, alloc: Global, cache: &ObjectCache, me: ObjectClient) -> Vec<ObjectClient>
     requires { KnowsObjects cache.now me }
     ensures items { result.items ≡ me ∷ [] }
     ensures known { (k : ℕ) (client : _) → slice_get result.items k ≡ Some client
@@ -194,15 +204,12 @@ fn alone(
 }
 
 /// Why a cache isn't closed, and what is handed back.
-fn refused(
-    rt: &impl Abort,
-    closed: Result<ObjectsLeft, (ObjectCloseError, ObjectCache, Vec<ObjectClient>)>,
-) -> (ObjectCloseError, ObjectCache, Vec<ObjectClient>)
+fn refused(rt: &impl Abort, closed: Result<ObjectsLeft, StaysOpen>) -> StaysOpen
     ensures { closed ≡ Err result }
 {
     match closed {
         Ok(left) => stuck(rt, left),
-        Err(back) => back,
+        Err(open) => open,
     }
 }
 
@@ -217,23 +224,32 @@ fn stays_open(
     alloc: Global,
     cache: ObjectCache,
     me: ObjectClient,
-) -> (ObjectCloseError, ObjectCache, ObjectClient)
-    requires { KnowsObjects cache me }
-    ensures { KnowsObjects result.1 result.2 }
+    room: ClosingRoom,
+) -> (ObjectCloseError, ObjectCache, ObjectClient, ClosingRoom)
+    requires known { KnowsObjects cache me }
+    requires room { cache.cache.geometry.clients ≤ places_in room }
+    ensures known { KnowsObjects result.1 result.2 }
+    ensures room { result.1.cache.geometry.clients ≤ places_in result.3 }
 {
     let clients = alone(rt, alloc, &cache, me);
-    let (why, cache, mut clients) = refused(rt, cache.close(clients));
+    let open = refused(rt, cache.close(clients, room));
+    let StaysOpen {
+        why,
+        cache,
+        mut clients,
+        room,
+    } = open;
     let Some(me) = clients.pop() else {
         panic!(rt; "there is no client")
     };
-    (why, cache, me)
+    (why, cache, me, room)
 }
 
 /// A cache is closed once nothing is held and nothing is on a list; its walk hands out the rest.
 #[test]
 fn what_is_left_is_handed_out(rt: HostRuntime) {
     let alloc = rt.alloc();
-    let (cache, mut me) = begins(&rt, alloc);
+    let (cache, mut me, room) = begins(&rt, alloc);
     for number in 0u16..3 {
         let placed = cache.insert(
             &mut me,
@@ -245,14 +261,15 @@ fn what_is_left_is_handed_out(rt: HostRuntime) {
         assert_eq!(rt; placed, Ok(Placing::Placed));
     }
     assert_eq!(rt; cache.erase(&mut me, key(1)), 1);
-    let (why, cache, _) = refused(&rt, cache.close(Vec::new(alloc)));
-    assert_eq!(rt; why, ObjectCloseError::Missing { have: 0, want: 1 });
-    let (why, cache, mut me) = stays_open(&rt, alloc, cache, me);
+    let open = refused(&rt, cache.close(Vec::new(alloc), room));
+    assert_eq!(rt; open.why, ObjectCloseError::Missing { have: 0, want: 1 });
+    let StaysOpen { cache, room, .. } = open;
+    let (why, cache, mut me, room) = stays_open(&rt, alloc, cache, me, room);
     assert_eq!(rt; why, ObjectCloseError::Untaken { client: 0 });
     let Ok(Some((handle, _))) = cache.lookup(&mut me, key(2)) else {
         panic!(rt; "the object isn't found")
     };
-    let (why, cache, mut me) = stays_open(&rt, alloc, cache, me);
+    let (why, cache, mut me, room) = stays_open(&rt, alloc, cache, me, room);
     assert_eq!(rt; why, ObjectCloseError::HandlesOut { client: 0 });
     assert!(rt;
         !gives_back(&rt, &cache, &mut me, handle),
@@ -260,7 +277,7 @@ fn what_is_left_is_handed_out(rt: HostRuntime) {
     );
     assert_eq!(rt; taken(&cache, &mut me), Some((key(1), object(1))));
     let clients = alone(&rt, alloc, &cache, me);
-    let mut left = match cache.close(clients) {
+    let mut left = match cache.close(clients, room) {
         Ok(left) => left,
         Err(_) => panic!(rt; "it isn't closed"),
     };

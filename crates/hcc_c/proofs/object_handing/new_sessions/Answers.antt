@@ -23,8 +23,8 @@ loop-client-preserved c =
     let room = was.room in
     record {
       rest = (rw next at was.rest).1;
-      clients_are = rw items (last_moved (λ (session : Box ObjectSession Global). session.value.client)
-          made session rest
+      clients_are = rw items (last_moved
+          (λ (session : Box ObjectSession Global). session.value.client) made session rest
           ∙ ap (λ client. map (λ (session : Box ObjectSession Global). session.value.client) made
           ++ client ∷ rest) c.in-Ok-new_session.ensures.client
           ∙ (rw next at was.clients_are));

@@ -12,7 +12,7 @@ closed-requires c =
     subst (AreBack c.args.self.cache)
     (sym (gathered c.loop-client.back.items rest.items c.args.clients.items
     c.loop-client.invariant.same (omega arith)))
-    (back_below c.args.self c.args.clients.items c.requires)
+    (back_below c.args.self c.args.clients.items c.requires.back)
 
 pub invariant_of-result : goal.invariant_of-result
 invariant_of-result c = record {
