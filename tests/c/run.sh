@@ -1,8 +1,8 @@
 #!/usr/bin/env bash
 # Builds the library and the examples for C, C++ and Rust, and runs them: the misuses that the
 # header names among them, C with each request for memory refused; plays traces of calls through the
-# headers; lets threads borrow clients, and read values that others replace; and C and C++ again with
-# the C file under AddressSanitizer and UndefinedBehaviorSanitizer, the threads under
+# headers; lets threads borrow clients, read values that others replace, and hand objects back; and C
+# and C++ again with the C file under AddressSanitizer and UndefinedBehaviorSanitizer, the threads under
 # ThreadSanitizer. It wants crates/hcc_c/out/libhcc_c.a, as `rt lib` in crates/hcc_c makes it, and
 # fails where a compiler is missing.
 # Usage: tests/c/run.sh [READS]     of values that others replace: 4,000,000 by default
@@ -39,6 +39,13 @@ lends() {
 # Has threads read values that others replace: reads TIMES LIBRARY WORD..
 reads() {
     builds cc -std=c11 "${@:3}" tests/c/readers.c "$2" && "$folder/built" "$1"
+}
+
+# Has threads hand objects back, with what the library allocates counted: hands OBJECTS LIBRARY WORD..
+hands() {
+    cc -std=c11 -c tests/c/heap.c -o "$folder/heap.o" \
+        && builds cc -std=c11 "${@:3}" tests/c/objects.c "$folder/heap.o" "$2" "$wrap" \
+        && "$folder/built" "$1"
 }
 
 # Builds a program and runs it: runs WORD..
@@ -130,6 +137,7 @@ if command -v cc > /dev/null; then
         tries "threads borrow $clients clients" lends $clients 10000000 "$library" -O2
     done
     tries "threads read what others replace" reads "${1:-4000000}" "$library" -O2
+    tries "threads hand objects back" hands 10000000 "$library" -O2
     tries "two threads in one client, checked" meets
     tries "each function of the header is a symbol of the library" exports
     tries "C with memory refused" bears_refusals
@@ -139,6 +147,7 @@ if command -v cc > /dev/null; then
         library=$folder/sanitized/libferretgold.a
         tries "C, sanitized" prints "$in_c" run-c SANITIZE=address,undefined LIBRARY="$library"
         tries "traces in C, sanitized" plays "$library" cc -std=c11 "${sanitize[@]}" "${traces[@]}"
+        tries "threads hand objects back, sanitized" hands 400000 "$library" -O1 "${sanitize[@]}"
         for clients in 3 70; do
             tries "threads borrow $clients clients, sanitized" lends $clients 400000 \
                 "$folder/threads/libferretgold.a" -O1 -fsanitize=thread

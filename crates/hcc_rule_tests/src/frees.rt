@@ -115,17 +115,39 @@ impl Worker<'_> {
             × ((view self.new.seat).others ≡ (view self.old.seat).others) }
         ensures ready { IsReady (view self.new.seat) }
     {
-        let data = self.table.data_of(slot);
-        let at = SlotAt { slot, data };
-        let seen = self.table.look_at(&mut self.seat, at);
+        let seen = self.look(slot);
+        let [taken, left, charge] = self.evict_seen(rt, slot, seen, key, passed);
+        [seen, taken, left, charge]
+    }
+
+    /// The same, where the slot's word was seen before.
+    pub(super) fn evict_seen(
+        &mut self,
+        rt: &impl Abort,
+        slot: u32,
+        seen: u64,
+        key: Key,
+        passed: Option<u32>,
+    ) -> [u64; 3]
+        requires ready { IsReady (view self.old.seat) }
+        requires slot { slot < 8 }
+        requires trail { trail_to 8 key slot ≡ option_to_list passed }
+        requires within { IfSome passed (λ s. s < 8) }
+        ensures same { (self.new.table ≡ self.old.table) × (self.new.client ≡ self.old.client)
+            × (self.new.shown ≡ self.old.shown)
+            × ((view self.new.seat).others ≡ (view self.old.seat).others) }
+        ensures ready { IsReady (view self.new.seat) }
+    {
         assert!(rt; state(seen) >= INVISIBLE, "slot {slot} has no entry");
         assert!(rt; refs(seen) == 0, "slot {slot} is held");
+        let data = self.table.data_of(slot);
+        let at = SlotAt { slot, data };
         let found = self.table.free_at(&mut self.seat, at, seen, None);
         assert!(rt; found == seen, "slot {slot} was not taken");
         let charge = self.taken_charge(rt, slot, key);
         let taken = self.table.look_at(&mut self.seat, at);
         self.take_back(slot, passed, charge);
-        [seen, taken, self.table.look_at(&mut self.seat, at), charge]
+        [taken, self.table.look_at(&mut self.seat, at), charge]
     }
 
     /// Frees the entry of a slot without references, while an acquire goes astray there. The words

@@ -26,6 +26,8 @@ mod lookups;
 #[cfg(test)]
 mod protocol;
 #[cfg(test)]
+mod schedules;
+#[cfg(test)]
 mod steps;
 #[cfg(test)]
 mod threads;

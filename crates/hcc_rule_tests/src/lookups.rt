@@ -31,14 +31,29 @@ impl Worker<'_> {
             (record_of slot weight NAME result.1 entry ∷ []) (view self.new.seat) }
         ensures counting { is_counting result.1 ≡ true }
     {
+        let seen = self.look(slot);
+        assert!(rt; state(seen) >= INVISIBLE, "slot {slot} has no entry");
+        (seen, self.acquire(rt, slot, weight))
+    }
+
+    /// Takes references of this weight on a slot's entry. The word is that which it found.
+    pub(super) fn acquire(&mut self, rt: &impl Abort, slot: u32, weight: u32) -> u64
+        requires ready { IsReady (view self.old.seat) }
+        requires slot { slot < 8 }
+        requires weight { (0 < weight) × (weight ≤ MOST_WEIGHT) }
+        ensures same { (self.new.table ≡ self.old.table) × (self.new.client ≡ self.old.client)
+            × (self.new.shown ≡ self.old.shown)
+            × ((view self.new.seat).others ≡ (view self.old.seat).others) }
+        ensures holds { (entry : Entry) × Carries new_client
+            (record_of slot weight NAME result entry ∷ []) (view self.new.seat) }
+        ensures counting { is_counting result ≡ true }
+    {
         let data = self.table.data_of(slot);
         let at = SlotAt { slot, data };
-        let seen = self.table.look_at(&mut self.seat, at);
-        assert!(rt; state(seen) >= INVISIBLE, "slot {slot} has no entry");
         let found = self.table.acquire_at(&mut self.seat, at, weight, NAME);
         assert!(rt; state(found) >= INVISIBLE, "slot {slot} lost its entry");
         assert!(rt; releases(found) < NEAR, "slot {slot} is near its end");
-        (seen, found)
+        found
     }
 
     /// The data words of the entry that the client holds a reference on.

@@ -1,6 +1,6 @@
 use Rattle.std.proofs.Common.{rules, ◌≡◌, [], None, refl}
 use Rattle.hcc_rule_tests.proofs.Hands.{taken}
-use Rattle.hcc_rule_tests.proofs.worker.Worker.evict.Goals as goal
+use Rattle.hcc_rule_tests.proofs.worker.Worker.evict_seen.Goals as goal
 
 pub taken_charge-charge-requires-clause-took : goal.taken_charge-charge-requires-clause-took
 taken_charge-charge-requires-clause-took g c =
