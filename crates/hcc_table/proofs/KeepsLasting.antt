@@ -11,10 +11,10 @@ use Rattle.hcc_core.specs.declared.slot.Entry.{Entry}
 use Rattle.hcc_core.specs.declared.slot.Reference.{Reference}
 use Rattle.hcc_core.specs.declared.slot.Slot.{Slot}
 use Rattle.hcc_core.specs.Entries.{free_of, is_free_for, may_free}
-use Rattle.hcc_core.specs.Outcomes.{allow, live_at, slot_at}
+use Rattle.hcc_core.specs.Outcomes.{allow, has_no_member, live_at, slot_at}
 use Rattle.hcc_core.specs.Runs.{entry_held, entry_of, held_at}
 use Rattle.hcc_core.specs.Steps.{outcome_of}
-use Rattle.hcc_core.specs.World.{State, is_named, references_of}
+use Rattle.hcc_core.specs.World.{State, is_named, is_shareable as has_entry, owns_nothing, references_of}
 use Rattle.hcc_core.proofs.Keeps.{found_ok}
 use Rattle.hcc_rule.specs.declared.key.Key.{Key}
 use Rattle.hcc_rule.specs.declared.table.RuleTable.{RuleTable}
@@ -69,7 +69,9 @@ frees_unheld w next client slot charge is c n =
     by seen found at may =
         ap (option_and_then (entry_held c n)) at
         ∙ ap (λ ks. if list_any (is_named c n) ks then entry_of seen else None)
-        (none (references_of seen) (last _ _ _ _ may))
+        (none (references_of seen)
+        (last (owns_nothing found.owned) (has_no_member found.trail) (has_entry seen)
+        (is_free_for client None (references_of seen)) may))
 
 module _ {T A : Type 0} (fits : T → Key → List ℕ → Type 0) (table : RuleTable T A)
     (name slot : ℕ) where
