@@ -1,7 +1,7 @@
 /* Threads insert objects into a cache, find them, and erase them. Each object is handed back exactly
  * once, as it was inserted, and none while a handle is held on it; no call asks for memory. Opening a
  * cache refuses where any request for memory is refused, and leaves nothing behind.
- * Linked with heap.c. Usage: objects [OBJECTS]    10,000,000 by default */
+ * Linked with heap.c. Usage: objects [OBJECTS]    15,000,000 at most and by default */
 #include "ferretgold_raw.h"
 #include "heap.h"
 
@@ -10,7 +10,7 @@
 #include <stdio.h>
 #include <stdlib.h>
 
-enum { THREADS = 4, HANDLES = 8, SLOTS = 256, KEYS = 640, ROUNDS = 4, NOTHING = 0xffff };
+enum { THREADS = 4, HANDLES = 8, SLOTS = 256, KEYS = 640, ROUNDS = 4, MOST = 15000000, NOTHING = 0xffff };
 
 /* Where an object is: the caller's before it is inserted, and again where it isn't placed. */
 enum { OWN, INSERTED, BACK };
@@ -28,7 +28,7 @@ typedef struct worker {
     ferretgold_handle handles[HANDLES];
     object *held[HANDLES];
     unsigned holds;
-    unsigned long inserted, refused, alone, full, back, freed_by_other, wrong;
+    unsigned long inserted, refused, alone, full, back, wrong;
 } worker;
 
 static unsigned long faults = 0;
@@ -310,15 +310,11 @@ static void bears_refusals(void) {
 }
 
 int main(int count, char **words) {
-    const size_t all = count > 1 ? strtoul(words[1], NULL, 10) : 10000000;
-    object *objects = calloc(all / ROUNDS, sizeof *objects);
-    if (objects == NULL) {
-        return 2;
-    }
+    static object objects[MOST / ROUNDS];
+    const size_t all = count > 1 ? strtoul(words[1], NULL, 10) : MOST;
     bears_refusals();
     for (unsigned number = 0; number < ROUNDS; number++) {
         round_of(number, objects, all / ROUNDS);
     }
-    free(objects);
     return faults != 0;
 }

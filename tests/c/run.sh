@@ -137,7 +137,7 @@ if command -v cc > /dev/null; then
         tries "threads borrow $clients clients" lends $clients 10000000 "$library" -O2
     done
     tries "threads read what others replace" reads "${1:-4000000}" "$library" -O2
-    tries "threads hand objects back" hands 10000000 "$library" -O2
+    tries "threads hand objects back" hands 15000000 "$library" -O2
     tries "two threads in one client, checked" meets
     tries "each function of the header is a symbol of the library" exports
     tries "C with memory refused" bears_refusals

@@ -1,5 +1,5 @@
 //! How a worker looks an entry up, and counts it down.
-ghost use Rattle.std.specs.Prelude.{◌≡◌, ◌<◌, ◌≤◌, [], ◌∷◌, true, IsSomeAnd};
+ghost use Rattle.std.specs.Prelude.{◌≡◌, ◌<◌, ◌≤◌, [], ◌∷◌, true, Some, IsSomeAnd};
 ghost use Rattle.hcc_core.specs.declared.limits.TheConstants.{MOST_WEIGHT};
 ghost use Rattle.hcc_core.specs.declared.slot.Entry.{Entry};
 ghost use Rattle.hcc_core.specs.Opening.{new_client};
@@ -36,9 +36,11 @@ impl Worker<'_> {
         (seen, self.acquire(rt, slot, weight))
     }
 
-    /// Takes references of this weight on a slot's entry. The word is that which it found.
+    /// Takes references of this weight on the entry of the slot that it looked at. The word is that
+    /// which it found.
     pub(super) fn acquire(&mut self, rt: &impl Abort, slot: u32, weight: u32) -> u64
         requires ready { IsReady (view self.old.seat) }
+        requires looked { (view self.old.seat).work.looked ≡ Some slot }
         requires slot { slot < 8 }
         requires weight { (0 < weight) × (weight ≤ MOST_WEIGHT) }
         ensures same { (self.new.table ≡ self.old.table) × (self.new.client ≡ self.old.client)

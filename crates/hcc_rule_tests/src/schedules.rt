@@ -33,7 +33,7 @@ impl Worker<'_> {
             (record_of slot 1 NAME result.0 entry ∷ []) (view self.new.seat) }
         ensures counting { is_counting result.0 ≡ true }
     {
-        let found = self.acquire(rt, slot, 1);
+        let (_, found) = self.reach(rt, slot, 1);
         let shown = self.table.hide(&mut self.seat, slot, NAME);
         assert!(rt; state(shown) == VISIBLE, "slot {slot} is hidden already");
         (found, shown & HIDING_MASK)
@@ -103,7 +103,8 @@ fn an_erased_entry_may_be_left_to_the_clock(rt: HostRuntime) -> Result<(), Alloc
     let mut me = hired(&rt, &table, &mut seats);
     let first = other.draft(FIRST, 200, 2, None);
     other.insert(&rt, 1, first, None);
-    assert_eq!(rt; state(me.look(1)), VISIBLE);
+    let seen = me.look(1);
+    assert!(rt; state(seen) == VISIBLE, "slot 1 shows no entry");
     let (_, hidden) = other.hides(&rt, 1);
     let found = me.acquire(&rt, 1, 1);
     assert_eq!(rt; found, hidden);

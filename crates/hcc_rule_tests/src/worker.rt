@@ -1,6 +1,7 @@
 //! A client at a table. Between the calls of a worker its client has nothing in hand and holds no
 //! reference. Each call makes a few single steps and answers the words that they found.
-ghost use Rattle.std.specs.Prelude.{◌≡◌, ◌<◌, ◌∷◌, ◌++◌, length};
+ghost use Rattle.std.specs.Prelude.{◌≡◌, ◌<◌, ◌∷◌, ◌++◌, Some, length, true};
+ghost use Rattle.hcc_word.specs.Word.{is_shareable};
 ghost use Rattle.hcc_rule.specs.Callers.{plan_of, IsSeatAt};
 ghost use Rattle.hcc_rule_tests.specs.Benches.{IsBench, IsReady, above_prop};
 ghost use Rattle.hcc_rule.specs.Passing.{as_other};
@@ -49,6 +50,8 @@ impl Worker<'_> {
             × (self.new.shown ≡ self.old.shown)
             × ((view self.new.seat).others ≡ (view self.old.seat).others) }
         ensures ready { IsReady (view self.new.seat) }
+        ensures looked { is_shareable result ≡ true
+            → (view self.new.seat).work.looked ≡ Some slot }
     {
         let data = self.table.data_of(slot);
         let at = SlotAt { slot, data };

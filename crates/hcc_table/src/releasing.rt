@@ -142,5 +142,6 @@ pub(crate) fn let_go<T: Tag, A: Allocator>(
 fn is_free_to_go(word: u64, erase: bool, room: bool) -> bool
     ensures { result ≡ (room && is_due erase word) }
 {
-    room && has_entry(word) && refs(word) == 0 && (erase || !is_shown(word))
+    // Most releases leave a visible entry, so that is tested first.
+    (erase || !is_shown(word)) && has_entry(word) && refs(word) == 0 && room
 }
