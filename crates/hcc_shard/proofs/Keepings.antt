@@ -1,5 +1,5 @@
 -- What a walk leaves of a view at a slot once what it freed is settled.
-use Rattle.std.proofs.Common.{◌≡◌, ℕ, ◌+◌, ◌≤◌, ◌<◌, ◌++◌, true, List, [], length, sym, subst, refl, ap, ◌∙◌, arith}
+use Rattle.std.proofs.Common.{◌≡◌, ℕ, ◌+◌, ◌<◌, true, List, [], length, sym, subst, refl, ap, ◌∙◌, arith}
 use Rattle.std.proofs.lemmas.List.{append-nil}
 use Rattle.hcc_core.specs.declared.limits.TheConstants.{MOST_HANDLES, STAMPS_PER_CLIENT}
 use Rattle.hcc_core.specs.Lawful.{is_in}
@@ -8,14 +8,13 @@ use Rattle.hcc_rule.specs.declared.key.Key.{Key}
 use Rattle.hcc_rule.specs.declared.view.Record.{Record}
 use Rattle.hcc_rule.specs.declared.view.View.{View}
 use Rattle.hcc_rule.specs.Between.{IsBetweenCalls}
-use Rattle.hcc_rule.specs.Gone.{Takes}
 use Rattle.hcc_rule.specs.Records.{weight_on}
 use Rattle.hcc_rule.proofs.Gone.{takes_alike, takes_none}
 use Rattle.hcc_table.specs.Erased.{Erases}
 use Rattle.hcc_table.specs.Searched.{IsFoundOn, Searched, Sought}
 use Rattle.hcc_charge.specs.Settled.{settled}
 use Rattle.hcc_shard.specs.Kept.{IsPassed}
-use Rattle.hcc_shard.specs.Seated.{IsKept, IsQuiet}
+use Rattle.hcc_shard.specs.Seated.{IsQuiet}
 use Rattle.hcc_shard.proofs.Resting.{IsQuietAgain, idle_again, looked_again, quiet_more}
 use Rattle.hcc_shard.proofs.Settlings.{settles_back}
 

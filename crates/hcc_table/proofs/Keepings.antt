@@ -1,5 +1,5 @@
 -- What a walk holds or frees at a slot.
-use Rattle.std.proofs.Common.{◌≡◌, ℕ, zero, suc, ◌+◌, ◌++◌, ◌==◌, ◌<◌, ◌≤◌, ◌&&◌, ◌*◌, ◌||◌, not, Bool, true, false, List, [], ◌∷◌, Option, None, Some, IfSome, IfNone, sym, subst, refl, ap, ◌∙◌, arith}
+use Rattle.std.proofs.Common.{◌≡◌, ℕ, zero, suc, ◌+◌, ◌++◌, ◌==◌, ◌<◌, ◌≤◌, ◌&&◌, ◌||◌, not, Bool, true, false, List, [], ◌∷◌, None, IfSome, sym, subst, refl, ap, ◌∙◌, arith}
 use Rattle.std.proofs.lemmas.Bool.{eqb-true}
 use Rattle.hcc_word.specs.declared.layout.TheConstants.{HIT_BIT}
 use Rattle.hcc_word.specs.Word.{is_shareable, is_visible, refs_of, state_of}

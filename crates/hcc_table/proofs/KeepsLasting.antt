@@ -7,7 +7,6 @@ use Rattle.hcc_word.specs.Word.{is_shareable, is_visible}
 use Rattle.hcc_core.specs.declared.client.Client.{Client}
 use Rattle.hcc_core.specs.declared.event.Event.TheVariants as events
 use Rattle.hcc_core.specs.declared.event.Reply.TheVariants as replies
-use Rattle.hcc_core.specs.declared.slot.Entry.{Entry}
 use Rattle.hcc_core.specs.declared.slot.Reference.{Reference}
 use Rattle.hcc_core.specs.declared.slot.Slot.{Slot}
 use Rattle.hcc_core.specs.Entries.{free_of, is_free_for, may_free}

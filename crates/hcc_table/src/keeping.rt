@@ -1,10 +1,9 @@
 //! Holding the entry of a slot, for walks over all slots.
-ghost use Rattle.std.specs.Prelude.{◌≡◌, ◌+◌, ◌^◌, ◌<◌, ◌≤◌, ◌&&◌, [], true, false, None, IfSome, IfNone};
+ghost use Rattle.std.specs.Prelude.{◌≡◌, ◌+◌, ◌^◌, ◌<◌, ◌≤◌, [], true, false, None, IfSome, IfNone};
 ghost use Rattle.hcc_word.specs.Word.{is_visible};
 ghost use Rattle.hcc_core.specs.declared.limits.TheConstants.{REFERENCES_PER_CLIENT};
 ghost use Rattle.hcc_rule.specs.declared.view.Record.{Record};
 ghost use Rattle.hcc_rule.specs.Callers.{slots_of, room_of, IsSeatAt, IsSlotAt, IsSlotOf};
-ghost use Rattle.hcc_rule.specs.Addresses.{address_of_meta};
 ghost use Rattle.hcc_rule.specs.Records.{record_in};
 ghost use Rattle.hcc_rule.specs.Seats.{IsSameSeat, view};
 ghost use Rattle.hcc_rule.specs.ToldReferences.{may_reach};
@@ -12,7 +11,6 @@ ghost use Rattle.hcc_rule.specs.Views.{load_of};
 ghost use Rattle.hcc_table.specs.AtSlots.{Frees, HoldsShown, IsKeptBy, PinsAt, freed_there, keeping, takes_one};
 ghost use Rattle.hcc_table.specs.Efforts.{Lost, Took};
 ghost use Rattle.hcc_table.specs.Erased.{Erases, IsAtRest};
-ghost use Rattle.hcc_table.specs.Freed.{TakesByWhereDue, TriedWhereDue, is_due};
 ghost use Rattle.hcc_table.specs.Lists.{Hands};
 ghost use Rattle.hcc_table.specs.Pins.{IsOf};
 ghost use Rattle.hcc_table.specs.Searched.{Sought, IsFoundOn};

@@ -1,4 +1,4 @@
-use Rattle.std.proofs.Common.{◌≡◌, true, refl, sym, arith}
+use Rattle.std.proofs.Common.{refl, sym, arith}
 use Rattle.hcc_word.specs.Word.{is_shareable, is_visible}
 use Rattle.hcc_rule.specs.Looked.{is_hidden}
 use Rattle.hcc_rule.specs.Seats.{view}

@@ -1,4 +1,4 @@
-use Rattle.std.proofs.Common.{◌≡◌, ℕ, ◌+◌, refl, ap, arith}
+use Rattle.std.proofs.Common.{refl, ap, arith}
 use Rattle.hcc_core.specs.declared.client.Client.{Client}
 use Rattle.hcc_rule.specs.Callers.{geometry_of}
 use Rattle.hcc_rule.specs.Seats.{view}
