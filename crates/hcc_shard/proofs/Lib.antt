@@ -3,6 +3,7 @@ pub mod Seatings
 pub mod Reopenings
 pub mod Resting
 pub mod Settlings
+pub mod Keepings
 pub mod Pinning
 pub mod Pins
 pub mod Insertions

@@ -8,6 +8,7 @@ pub mod Ended
 pub mod Reopened
 pub mod Imaged
 pub mod Callers
+pub mod Kept
 pub mod Texts
 pub mod Reserving
 pub mod Gets

@@ -8,6 +8,7 @@ mod erasing;
 mod getting;
 mod imaging;
 mod inserting;
+mod keeping;
 mod lookups;
 mod reading;
 mod releasing;

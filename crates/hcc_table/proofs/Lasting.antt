@@ -76,7 +76,7 @@ module _ {T A : Type 0} (table : RuleTable T A) where
       ∙ seeking_stays h.own h.only (world_at table a) s
 
   -- in a shard of one client what is shown at one is shown when the call began
-  moment_shows : clients_of table ≡ 1 → (old moment new : SeatOf T)
+  pub moment_shows : clients_of table ≡ 1 → (old moment new : SeatOf T)
       → IsMomentOf table moment old new → (s : ℕ)
       → shown_at (world_at table moment) s ≡ shown_at (world_at table old) s
   moment_shows one old moment new m s =

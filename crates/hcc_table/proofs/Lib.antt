@@ -27,6 +27,8 @@ pub mod Finds
 pub mod TakesBack
 pub mod Gives
 pub mod Pinnings
+pub mod Keepings
+pub mod KeepsLasting
 pub mod Erasures
 pub mod Hidings
 pub mod HideSteps

@@ -135,8 +135,9 @@ module _ {T A : Type 0} (table : RuleTable T A) (one : clients_of table ≡ 1) w
           ∙ ap (λ xs. option_and_then entry_shown (slice_get xs s)) kept.0
 
   -- To take an entry was tried where it was due.
-  takes_show : (slot word : ℕ) (name : Option ℕ) (due : Bool) (freed : Option ℕ) (a b : SeatOf T)
-      → TakesByWhereDue table slot word name due freed a b → IfSome freed (λ charge. due ≡ true)
+  pub takes_show : (slot word : ℕ) (name : Option ℕ) (due : Bool) (freed : Option ℕ)
+      (a b : SeatOf T) → TakesByWhereDue table slot word name due freed a b
+      → IfSome freed (λ charge. due ≡ true)
       → ShowsBut slot freed (world_at table a) (world_at table b)
   takes_show slot word name false (Some charge) a b h won = cc
   takes_show slot word name false None a b h won =

@@ -15,5 +15,6 @@ pub mod Standing
 pub mod Hides
 pub mod Tries
 pub mod Pinned
+pub mod AtSlots
 pub mod Still
 pub mod Optimistic

@@ -79,6 +79,23 @@ module _ {T : Type 0} where
     pub held : Each (λ (r : Record). r.slot ≡ slot → is_shareable word ≡ true) v.records
     pub enough : 0 < weight_on slot v.records → weight_on slot v.records ≤ refs_of word
 
+  -- One record more: of a visible entry, which the client had not seen dead. All that it held on
+  -- that slot is on this entry.
+  pub record IsFoundOn (fits : T → Key → List ℕ → Type 0) (room slot name : ℕ) (v w : View T)
+      (r : Record) : Type 0 where
+    pub searched : Searched v w
+    pub records : w.records ≡ v.records ++ r ∷ []
+    pub on : r.slot ≡ slot
+    pub called : r.name ≡ name
+    pub single : r.weight ≡ 1
+    pub shown : r.shown ≡ true
+    pub right : IfSome v.tag (λ tag. fits tag (key_of r.entry) r.entry.value)
+    pub short : length r.entry.value ≤ 8 * room
+    pub bytes : Each (λ b. b < 256) r.entry.value
+    pub small : r.entry.charge < 2 ^ 32
+    pub alive : is_in r.entry.stamp v.work.dead ≡ false
+    pub one : Each (λ (q : Record). q.slot ≡ slot → q.entry ≡ r.entry) v.records
+
   -- One record more: of a visible entry of the key, which the client had not seen dead. All that it
   -- held on that slot is on this entry.
   pub record IsFound (fits : T → Key → List ℕ → Type 0) (room slot name : ℕ) (key : Key)

@@ -12,7 +12,9 @@ ghost use Rattle.hcc_table.specs.declared.efforts.Effort.{Effort};
 ghost use Rattle.hcc_table.specs.declared.hiding.Erased.{Erased};
 ghost use Rattle.hcc_table.specs.declared.inserting.Insertion.{Insertion};
 ghost use Rattle.hcc_table.specs.declared.inserting.Insertion.TheVariants.{NoSlot};
+ghost use Rattle.hcc_table.specs.declared.keeping.AtSlot.{AtSlot};
 ghost use Rattle.hcc_table.specs.declared.pins.Pin.{Pin};
+ghost use Rattle.hcc_table.specs.AtSlots.{IsShownBy, PinsAt, PinsLasting};
 ghost use Rattle.hcc_table.specs.Hides.{HidesAll};
 ghost use Rattle.hcc_table.specs.Probed.{Searches};
 ghost use Rattle.hcc_table.specs.Seeking.{is_settling, GoesOnBy, Seeks};
@@ -50,6 +52,35 @@ pub fn law_found_alone<T: Tag, A: Allocator>()
         → Searches T.fits table key name marks answer before after old new
         → IsNone answer ↔ ((slot : ℕ) → slot < slots_of table
         → ¬ ShowsKey (world_at table old) key slot) }
+{}
+
+/// A walk that comes to a slot holds what stands there, whatever other clients do meanwhile.
+pub fn law_pinned_lasting<T: Tag, A: Allocator>()
+    // Where it holds nothing, the slot showed nothing at some moment of the call: so no entry stood
+    // visible there through the whole call. Where it holds the entry, that very entry was visible
+    // there at some moment. Where it freed one, the slot showed nothing at some moment, and then an
+    // entry was taken there on which no client held a reference.
+    ensures { (table : RuleTable T A) (name slot : ℕ) (room : Bool) (done : AtSlot)
+        (before after : Effort) (old new : SeatOf T)
+        → PinsAt T.fits table name slot room done before after old new
+        → PinsLasting table slot name done old new }
+{}
+
+/// In a shard of one client a walk that comes to a slot holds exactly what the shard shows there.
+pub fn law_pinned_alone<T: Tag, A: Allocator>()
+    // It holds an entry where the slot shows one in the world that the seat knows when the call
+    // begins: that very entry. Else the slot shows nothing there.
+    ensures shown { (table : RuleTable T A) (name slot : ℕ) (room : Bool) (done : AtSlot)
+        (before after : Effort) (old new : SeatOf T) → clients_of table ≡ 1
+        → PinsAt T.fits table name slot room done before after old new
+        → IsShownBy (shown_at (world_at table old) slot) name done (view new) }
+
+    // In the world that the seat knows at the end each slot shows what it showed, also where an
+    // entry was freed.
+    ensures stays { (table : RuleTable T A) (name slot : ℕ) (room : Bool) (done : AtSlot)
+        (before after : Effort) (old new : SeatOf T) → clients_of table ≡ 1
+        → PinsAt T.fits table name slot room done before after old new
+        → ShowsSame (world_at table old) (world_at table new) }
 {}
 
 /// In a shard of one client hiding a key hides exactly what the shard shows of it.

@@ -46,6 +46,9 @@
 //! - [`visit`], by the clock: load the meta word. An entry that is held stays. A visible one with a
 //!   countdown above 0 gets 1 less, and at most 2; any other is taken, and its slot is freed. Each
 //!   is one compare-exchange: if it loses, nothing is changed.
+//! - [`pin_at`], for walks over all slots: load the meta word. A visible entry is acquired, by one
+//!   add, and kept where that finds it visible still; else the add is taken back. A hidden one with
+//!   no references is taken by one compare-exchange, and freed, where a list is lent that has room.
 //! - Freeing: load key and charge, subtract 1 from the displacements of the trail, store 0. Until
 //!   then others change nothing of the slot, except its displacement and, by strays, its meta word.
 //!   Where a call is lent a list ([`FreedList`]), whoever frees an entry puts its key and the first
@@ -67,6 +70,7 @@ mod efforts;
 mod freeing;
 mod hiding;
 mod inserting;
+mod keeping;
 pub mod laws;
 mod lists;
 mod optimistic;
@@ -85,6 +89,7 @@ pub use efforts::Effort;
 pub use freeing::free_taken;
 pub use hiding::{Erased, hide};
 pub use inserting::{Insertion, insert};
+pub use keeping::{AtSlot, pin_at};
 pub use lists::{Freed, FreedList, NoList};
 pub use optimistic::{Got, read_optimistic};
 pub use pinning::pinned_charge;
