@@ -123,6 +123,14 @@ typedef struct ferretgold_object_config {
     uint64_t seed;
 } ferretgold_object_config;
 
+/* What a walk holds at a slot: a handle on the entry there, and what its insertion gave. */
+typedef struct ferretgold_held_object {
+    ferretgold_handle handle;
+    ferretgold_key key;
+    ferretgold_object_value object;
+    uint64_t charge;
+} ferretgold_held_object;
+
 /* Statuses that these return beside those of ferretgold_status. */
 enum {
     /* What is on the client's list and its standalone entries fill the list's places. */
@@ -156,6 +164,11 @@ uint32_t ferretgold_raw_objects_next(ferretgold_object *left, ferretgold_key *ke
 uint32_t ferretgold_raw_objects_end(ferretgold_object left, ferretgold_object *kept);
 uint32_t ferretgold_raw_object_lookup(ferretgold_object *client, const ferretgold_key *key,
                                       ferretgold_handle *handle, ferretgold_object_value *object);
+/* Holds the entry of a slot of a shard as a look-up of its key does, and returns MISS where none is
+ * visible there, or there is no such slot. Where it finds a hidden one that nobody holds, it tries to
+ * free it. */
+uint32_t ferretgold_raw_object_pin_at(ferretgold_object *client, uint32_t shard, uint32_t slot,
+                                      ferretgold_held_object *held);
 uint32_t ferretgold_raw_object_reref(ferretgold_object *client, const ferretgold_handle *handle,
                                      ferretgold_handle *more);
 /* What is freed is on the client's list then, from which `take_gone` takes the newest; it returns MISS

@@ -1,4 +1,4 @@
-/* Threads insert objects into a cache, find them, and erase them. Each object is handed back exactly
+/* Threads insert objects into a cache, find them, walk over them, and erase them. Each object is handed back exactly
  * once, as it was inserted, and none while a handle is held on it; no call asks for memory. Opening a
  * cache refuses where any request for memory is refused, and leaves nothing behind.
  * Linked with heap.c. Usage: objects [OBJECTS]    15,000,000 at most and by default */
@@ -10,7 +10,8 @@
 #include <stdio.h>
 #include <stdlib.h>
 
-enum { THREADS = 4, HANDLES = 8, SLOTS = 256, KEYS = 640, ROUNDS = 4, MOST = 15000000, NOTHING = 0xffff };
+enum { THREADS = 4, HANDLES = 8, SHARDS = 2, SLOTS = 256, KEYS = 640, ROUNDS = 4 };
+enum { MOST = 15000000, NOTHING = 0xffff };
 
 /* Where an object is: the caller's before it is inserted, and again where it isn't placed. */
 enum { OWN, INSERTED, BACK };
@@ -131,6 +132,23 @@ static void looks_up(worker *it) {
     }
 }
 
+/* Walks over some slots, and holds what is there; beyond the last slot and the last shard is nothing. */
+static void walks(worker *it) {
+    uint32_t slot = (uint32_t)drawn(it, SLOTS + 1);
+    const uint32_t shard = (uint32_t)drawn(it, SHARDS + 1);
+    for (unsigned k = 0; k < 8 && it->holds < HANDLES; k++, slot++) {
+        ferretgold_held_object held;
+        const uint32_t status = ferretgold_raw_object_pin_at(&it->client, shard, slot, &held);
+        if (status == FERRETGOLD_OK) {
+            keep(it, object_of(&held.object), held.handle, held.object.kind);
+            it->wrong += object_of(&held.object)->key != held.key.w0 || held.key.w1 != 5;
+            it->wrong += held.charge < 1 || held.charge > 8 || shard >= SHARDS || slot >= SLOTS;
+        } else {
+            it->wrong += status != FERRETGOLD_MISS;
+        }
+    }
+}
+
 /* Inserts an object once, with a handle where there may be one more: whether the cache or the client
  * has it then. */
 static bool inserts_once(worker *it, object *one, bool pinned, bool *list_full) {
@@ -197,6 +215,7 @@ static void *work(void *argument) {
             erase(it);
         } else if (what == 15) {
             takes_all(it);
+            walks(it);
         }
     }
     while (it->holds > 0) {
@@ -213,7 +232,7 @@ static uint32_t opens(bool strict, uint32_t gone, ferretgold_object clients[THRE
     config.clients = THREADS;
     config.handles = HANDLES;
     config.gone = gone;
-    config.shards = 2;
+    config.shards = SHARDS;
     config.strict = strict;
     config.capacity = 700;
     config.serials = FERRETGOLD_MOST_SERIALS;

@@ -49,7 +49,6 @@ CALLED_BY_NOBODY = {
     " hcc_block::ReadError::text hcc_player::TextFault::text",
     "for whoever reads through the cache: a source for tests, and the key of a block that is to be erased":
     "hcc_block::FailingSource::new hcc_block::key_of",
-    "what a walk over a cache's slots is to call": "hcc_shard::Shard::pin_at",
     "a part of a layer's promises that tests call by itself": "hcc_word::acquired hcc_word::acquires"
     " hcc_rule::Key::from_bytes hcc_table::free_taken hcc_charge::evict",
 }

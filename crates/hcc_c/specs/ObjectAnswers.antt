@@ -9,6 +9,7 @@ use Rattle.hcc_cache.specs.declared.object_inserting.Placing.{Placing}
 use Rattle.hcc_cache.specs.declared.object_inserting.Placing.TheVariants.{Placed, Dropped, Standalone}
 use Rattle.hcc_cache.specs.declared.objects.Object.{Object}
 use Rattle.hcc_c.specs.declared.inserting.Unfit.{Unfit}
+use Rattle.hcc_c.specs.declared.object_shapes.CHeldObject.{CHeldObject}
 use Rattle.hcc_c.specs.declared.object_shapes.CObject.{CObject}
 use Rattle.hcc_c.specs.declared.shapes.CHandle.{CHandle}
 use Rattle.hcc_c.specs.declared.shapes.Key.{Key}
@@ -36,6 +37,17 @@ abbrev pub object_found : Result (Option (CHandle × Object)) LookupError → CO
 object_found (Ok None) old = old
 object_found (Ok (Some found)) old = c_object_of found.1
 object_found (Err why) old = old
+
+-- what a walk holds at a slot
+abbrev pub status_of_held : Result (Option CHeldObject) LookupError → ℕ
+status_of_held (Ok None) = 1
+status_of_held (Ok (Some held)) = 0
+status_of_held (Err why) = code_of (looking_of why)
+
+abbrev pub held_or : Result (Option CHeldObject) LookupError → CHeldObject → CHeldObject
+held_or (Ok None) old = old
+held_or (Ok (Some held)) old = held
+held_or (Err why) old = old
 
 -- whether an answer says that the client's list is full; a refusal before any eviction doesn't say
 abbrev pub full_placed : Placing → Bool

@@ -1,10 +1,11 @@
 -- What each call of a client of a cache of objects comes to: what it answers, and what it leaves of
 -- the session.
-use Rattle.std.specs.Prelude.{◌≡◌, ℕ, ◌+◌, ◌*◌, ◌<◌, ◌≤◌, ◌^◌, ◌++◌, ◌∷◌, [], ◌↔◌, Bool, true, false, Option, Result, Err, IfOk, IfErr, IfSome, IfNone, OnOk, OnErr, IsOk, IsErrOf, MatchResult}
+use Rattle.std.specs.Prelude.{◌≡◌, ℕ, ◌+◌, ◌*◌, ◌<◌, ◌≤◌, ◌^◌, ◌++◌, ◌∷◌, [], ◌↔◌, Bool, true, false, Option, Result, Err, IfOk, IfErr, IfSome, IfNone, None, Ok, OnOk, OnErr, IsOk, IsErrOf, MatchResult}
 use Rattle.std.specs.Arc.{arc_value}
 use Rattle.hcc_word.specs.declared.objects.TheConstants.{ADDRESS_BITS}
 use Rattle.hcc_rule.specs.declared.key.Key.{Key}
 use Rattle.hcc_table.specs.declared.lists.Freed.{Freed}
+use Rattle.hcc_table.specs.AtSlots.{takes_one}
 use Rattle.hcc_table.specs.Lists.{has_room}
 use Rattle.hcc_table.specs.Steps.{freeing}
 use Rattle.hcc_shard.specs.Inserted.{inserting_listed}
@@ -14,6 +15,7 @@ use Rattle.hcc_cache.specs.declared.errors.ObjectError.{ObjectError}
 use Rattle.hcc_cache.specs.declared.errors.ObjectError.TheVariants as refusal
 use Rattle.hcc_cache.specs.declared.handle.Handle.{Handle}
 use Rattle.hcc_cache.specs.declared.object_inserting.Placing.{Placing}
+use Rattle.hcc_cache.specs.declared.object_walking.HeldObject.{HeldObject}
 use Rattle.hcc_cache.specs.declared.objects.Object.{Object}
 use Rattle.hcc_cache.specs.declared.priority.Priority.{Priority}
 use Rattle.hcc_cache.specs.Calls.{CountsAt, Erases, ErasesListed, Finds, HandsAt, Misses, Reads, Releases, Rerefs, TakesAtMost, shard_in}
@@ -22,12 +24,15 @@ use Rattle.hcc_cache.specs.Keys.{key_from}
 use Rattle.hcc_cache.specs.ObjectInserts.{FailsObject, InsertsObject, MayInsert, MayStand, PinsObject, answer_as, is_full, placed_as, refused_as}
 use Rattle.hcc_cache.specs.Objects.{HandsBack, alone_of, gone_of, is_word, object_bytes, object_of, places_left, shelf_of}
 use Rattle.hcc_cache.specs.Stays.{Stays}
+use Rattle.hcc_cache.specs.Walked.{HoldsAt, IsSlotIn, PassesAt}
 use Rattle.hcc_c.specs.declared.inserting.Unfit.{Unfit}
 use Rattle.hcc_c.specs.declared.object_session.ObjectSession.{ObjectSession}
+use Rattle.hcc_c.specs.declared.object_shapes.CHeldObject.{CHeldObject}
 use Rattle.hcc_c.specs.declared.shapes.Counts.{Counts}
 use Rattle.hcc_c.specs.declared.shapes.CHandle.{CHandle}
 use Rattle.hcc_c.specs.ObjectCounts.{counted_look, counted_pinned, counted_put}
 use Rattle.hcc_c.specs.ObjectSessions.{IsHandle, IsNone, below, client_in, judged}
+use Rattle.hcc_c.specs.ObjectShapes.{c_held_of}
 use Rattle.hcc_c.specs.Shapes.{c_handle_of}
 
 -- Nothing of the session changed but its client, and the counts are these.
@@ -55,6 +60,31 @@ pub record LooksUp (key : Key) (answer : Result (Option (CHandle × Object)) Loo
   pub list : new.client.gone ≡ old.client.gone
   pub rest : Keeps (counted_look answer old.counts) old new
   pub steps : Within (7 * (below old).geometry.slots + 1) old new
+
+-- The entry of a slot of a shard is held, where it is visible; none is where there is no such slot.
+pub record PinsAt (shard slot : ℕ) (answer : Result (Option CHeldObject) LookupError)
+    (old new : ObjectSession) : Type 0 where
+  pub outside : ¬ IsSlotIn (below old) shard slot
+      → (answer ≡ Ok None) × (new.client ≡ old.client)
+  pub full : IsErrOf answer look.HandlesFull
+      ↔ (IsSlotIn (below old) shard slot × (held_by (client_in old) ≡ (client_in old).most))
+  pub spent : IsErrOf answer look.Spent
+      ↔ (IsSlotIn (below old) shard slot × (held_by (client_in old) < (client_in old).most)
+      × ((client_in old).left ≡ 0))
+  pub refused : OnErr answer (new ≡ old)
+  pub held : IfOk answer (λ o. IfSome o (λ told. (held : HeldObject)
+      × HoldsAt (below old) shard slot held (client_in old) (client_in new)
+      × (told ≡ c_held_of old.cache_number held)))
+  pub passed : IfOk answer (λ o. IfNone o (IsSlotIn (below old) shard slot
+      → PassesAt (below old) shard slot (takes_one (shelf_of old.client)) (client_in old)
+      (client_in new)))
+  pub list : IfOk answer (λ _. IsSlotIn (below old) shard slot
+      → HandsAt (below old) (shelf_of old.client) (shelf_of new.client) shard (client_in old)
+      (client_in new))
+  pub counts : IfOk answer (λ _. IsSlotIn (below old) shard slot
+      → CountsAt shard (client_in old) (client_in new))
+  pub rest : Keeps old.counts old new
+  pub steps : Within (freeing (below old).geometry.slots + 4) old new
 
 -- One handle more on the entry of the handle of these numbers; none where it is that of none.
 pub record RefersAgain (c_handle : CHandle) (answer : Option (Result CHandle LookupError))

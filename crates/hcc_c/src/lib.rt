@@ -40,7 +40,7 @@ pub use object_holders::{
     KeptObjectsAt, KeptObjectsPlace, ObjectCacheAt, ObjectCachePlace, ObjectClientAt,
     ObjectClientPlace,
 };
-pub use object_shapes::{CObject, CObjectConfig};
+pub use object_shapes::{CHeldObject, CObject, CObjectConfig};
 pub use objects::{
     CacheObject, CachePlace, ClientObject, ClientPlace, ClosedObject, ClosedPlace, ImageObject,
     ImagePlace, objects_cross,

@@ -2,14 +2,14 @@
 //! refused.
 ghost use Rattle.std.specs.Prelude.{◌≡◌, None};
 ghost use Rattle.hcc_c.specs.Answers.{placed, status_of_given};
-ghost use Rattle.hcc_c.specs.ObjectAnswers.{full_of, full_of_pinned, full_placed, full_refused, gone_key_or, gone_object_or, handle_found, handle_of_pinned, object_found, placing_of, placing_of_pinned, status_of_found, status_of_gone, status_of_pinned, status_of_put};
+ghost use Rattle.hcc_c.specs.ObjectAnswers.{full_of, full_of_pinned, full_placed, full_refused, gone_key_or, gone_object_or, handle_found, handle_of_pinned, held_or, object_found, placing_of, placing_of_pinned, status_of_found, status_of_gone, status_of_held, status_of_pinned, status_of_put};
 
 use crate::answers::{DONE, MISSED};
 use crate::inserting::Unfit;
 use crate::kept_objects::KeptObjects;
 use crate::object_holders::{KeptObjectsPlace, ObjectCachePlace};
 use crate::object_pool::ObjectPool;
-use crate::object_shapes::CObject;
+use crate::object_shapes::{CHeldObject, CObject};
 use crate::objects::Loose;
 use crate::refusal::{Refusal, placing_code};
 use crate::shapes::{CHandle, Key};
@@ -29,6 +29,24 @@ pub(crate) fn told_found(
         Ok(Some((c_handle, found))) => {
             *handle = c_handle;
             *object = CObject::of(found);
+            DONE
+        }
+        Ok(None) => MISSED,
+        Err(why) => Refusal::looking(why).code(),
+    }
+}
+
+/// Gives C what a walk holds at a slot.
+pub(crate) fn told_held(
+    answer: Result<Option<CHeldObject>, LookupError>,
+    held: &mut CHeldObject,
+) -> u32
+    ensures status { result ≡ status_of_held answer }
+    ensures held { held.new ≡ held_or answer held.old }
+{
+    match answer {
+        Ok(Some(found)) => {
+            *held = found;
             DONE
         }
         Ok(None) => MISSED,

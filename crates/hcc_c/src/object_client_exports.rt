@@ -3,8 +3,8 @@
 //! comes to.
 ghost use Rattle.std.specs.Prelude.{◌≡◌, None, IfSome};
 ghost use Rattle.hcc_c.specs.Answers.{key_or, more_of, status_of, status_of_reref, value_or};
-ghost use Rattle.hcc_c.specs.ObjectAnswers.{full_of, full_of_pinned, gone_key_or, gone_object_or, handle_found, handle_of_pinned, object_found, placing_of, placing_of_pinned, status_of_found, status_of_gone, status_of_pinned, status_of_put};
-ghost use Rattle.hcc_c.specs.ObjectCalls.{GivesBack, Hides, LooksUp, Puts, PutsPinned, RefersAgain, TakesGone, TellsCharge, TellsKey};
+ghost use Rattle.hcc_c.specs.ObjectAnswers.{full_of, full_of_pinned, gone_key_or, gone_object_or, handle_found, handle_of_pinned, held_or, object_found, placing_of, placing_of_pinned, status_of_found, status_of_gone, status_of_held, status_of_pinned, status_of_put};
+ghost use Rattle.hcc_c.specs.ObjectCalls.{GivesBack, Hides, LooksUp, PinsAt, Puts, PutsPinned, RefersAgain, TakesGone, TellsCharge, TellsKey};
 ghost use Rattle.hcc_c.specs.ObjectLending.{IsThere};
 ghost use Rattle.hcc_c.specs.ObjectSessions.{IsWhole};
 ghost use Rattle.hcc_c.specs.ObjectShapes.{object_of};
@@ -12,9 +12,9 @@ ghost use Rattle.hcc_c.specs.Refusals.{code_of, priority_of};
 ghost use Rattle.hcc_c.specs.Shapes.{key_of};
 
 use crate::answers::{DONE, told, told_key, told_reref};
-use crate::object_answers::{told_found, told_gone, told_put, told_put_pinned};
+use crate::object_answers::{told_found, told_gone, told_held, told_put, told_put_pinned};
 use crate::object_holders::ObjectClientAt;
-use crate::object_shapes::CObject;
+use crate::object_shapes::{CHeldObject, CObject};
 use crate::refusal::{Refusal, priority_of};
 use crate::shapes::{CHandle, Key};
 
@@ -36,6 +36,24 @@ pub extern "C" fn ferretgold_raw_object_lookup(
 {
     let answer = client.session().lookup(key.key());
     told_found(answer, handle, object)
+}
+
+/// Holds the entry of a slot of a shard, where it is visible: so a program walks over a cache.
+#[unsafe(no_mangle)]
+pub extern "C" fn ferretgold_raw_object_pin_at(
+    client: &mut ObjectClientAt,
+    shard: u32,
+    slot: u32,
+    held: &mut CHeldObject,
+) -> u32
+    requires { IsWhole client.old.value }
+    ensures there { IsThere client.old client.new }
+    ensures whole { IsWhole client.new.value }
+    ensures pins { (answer : _) × PinsAt shard slot answer client.old.value client.new.value
+        × (result ≡ status_of_held answer) × (held.new ≡ held_or answer held.old) }
+{
+    let answer = client.session().pin_at(shard, slot);
+    told_held(answer, held)
 }
 
 #[unsafe(no_mangle)]

@@ -1,9 +1,10 @@
 //! Handles on objects, which are given by their numbers, and given back; and objects that are
 //! handed back.
-ghost use Rattle.hcc_c.specs.ObjectCalls.{GivesBack, Hides, LooksUp, RefersAgain, TakesGone};
+ghost use Rattle.hcc_c.specs.ObjectCalls.{GivesBack, Hides, LooksUp, PinsAt, RefersAgain, TakesGone};
 ghost use Rattle.hcc_c.specs.ObjectSessions.{IsWhole};
 
 use crate::object_session::ObjectSession;
+use crate::object_shapes::CHeldObject;
 use crate::shapes::CHandle;
 use hcc_cache::{Key, LookupError, Object};
 
@@ -24,6 +25,18 @@ impl ObjectSession {
                 self.counts.miss();
                 Ok(None)
             }
+        }
+    }
+
+    /// Holds the entry of a slot of a shard, as the cache does; none where there is no such slot.
+    pub fn pin_at(&mut self, shard: u32, slot: u32) -> Result<Option<CHeldObject>, LookupError>
+        requires { IsWhole self.old }
+        ensures whole { IsWhole self.new }
+        ensures pins { PinsAt shard slot result self.old self.new }
+    {
+        match self.cache.pin_at(&mut self.client, shard, slot)? {
+            Some(held) => Ok(Some(CHeldObject::of(self.cache_number, held))),
+            None => Ok(None),
         }
     }
 

@@ -1,14 +1,16 @@
 //! What crosses to C of a cache of objects, in C's layout.
 ghost use Rattle.std.specs.Prelude.{◌≡◌, Ok};
 ghost use Rattle.hcc_c.specs.ObjectCounts.{counted_pinned, counted_put};
-ghost use Rattle.hcc_c.specs.ObjectShapes.{c_object_of, config_of, object_of};
+ghost use Rattle.hcc_c.specs.ObjectShapes.{c_held_of, c_object_of, config_of, object_of};
 
-use crate::shapes::{CHandle, Counts, one_more};
-use hcc_cache::{Object, ObjectConfig, ObjectError, Placing};
+use crate::shapes::{CHandle, Counts, Key, one_more};
+use hcc_cache::{HeldObject, Object, ObjectConfig, ObjectError, Placing};
 use std::mem::size_of;
 
 // The sizes that C has.
 const _: () = prove!(size_of::<CObject>() == 16);
+
+const _: () = prove!(size_of::<CHeldObject>() == 64);
 
 const _: () = prove!(size_of::<CObjectConfig>() == 48);
 
@@ -38,6 +40,31 @@ impl CObject {
         Object {
             address: self.address,
             kind: self.kind,
+        }
+    }
+}
+
+/// What a walk holds at a slot, as C keeps it: a handle on the entry there, and what its insertion
+/// gave.
+#[derive(Clone, Copy, Debug, PartialEq, Eq)]
+#[repr(C)]
+pub struct CHeldObject {
+    pub handle: CHandle,
+    pub key: Key,
+    pub object: CObject,
+    pub charge: u64,
+}
+
+impl CHeldObject {
+    /// That of what the cache of this number holds.
+    pub(crate) fn of(cache: u32, held: HeldObject) -> CHeldObject
+        ensures { result ≡ c_held_of cache held }
+    {
+        CHeldObject {
+            handle: CHandle::of(cache, held.handle),
+            key: Key::words(held.key),
+            object: CObject::of(held.object),
+            charge: held.charge,
         }
     }
 }

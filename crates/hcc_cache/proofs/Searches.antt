@@ -2,3 +2,4 @@ pub mod MissedOrErasedKeys
 pub mod KnownAfterLookup
 pub mod ReadByHandle
 pub mod ReadByKey
+pub mod HeldAtSlots

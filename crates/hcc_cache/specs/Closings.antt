@@ -6,7 +6,7 @@ use Rattle.hcc_core.specs.Sums.{total}
 use Rattle.hcc_rule.specs.declared.key.Key.{Key}
 use Rattle.hcc_rule.specs.declared.view.Made.{Made}
 use Rattle.hcc_rule.specs.declared.view.View.{View}
-use Rattle.hcc_rule.specs.Closing.{Closes, IsWithin, has_entry, list_by, meta_at, over_entries, words_of}
+use Rattle.hcc_rule.specs.Closing.{Closes, IsWithin, has_entry, key_at, list_by, meta_at, over_entries, words_of}
 use Rattle.hcc_rule.specs.Passing.{joined_view, spent_view}
 use Rattle.hcc_rule.specs.Rule.{list_weighs, taken_weigh}
 use Rattle.hcc_shard.specs.declared.entries.ClosedShard.{ClosedShard}
@@ -21,8 +21,9 @@ use Rattle.hcc_cache.specs.declared.errors.CloseError.{CloseError}
 use Rattle.hcc_cache.specs.declared.errors.CloseError.TheVariants.{Missing, HandlesOut}
 use Rattle.hcc_cache.specs.declared.seeded.Seeded.{Seeded}
 use Rattle.hcc_cache.specs.Clients.{held_by, view_at}
-use Rattle.hcc_cache.specs.Keys.{fits_seeded}
+use Rattle.hcc_cache.specs.Keys.{fits_seeded, tag_at}
 use Rattle.hcc_cache.specs.Known.{Knows}
+use Rattle.hcc_cache.specs.Sharding.{shard_of}
 
 -- Of what has a number, of which some have more than none.
 
@@ -110,8 +111,8 @@ pub record IsClosed {T : Type 0} (fits : T → Key → List ℕ → Type 0) (cac
       → left.table.geometry ≡ cache.geometry
   pub closes : (s : ℕ) (left : ClosedShard _)
       → slice_get closed.shards.items s ≡ Some (Some left)
-      → Closes (fits_seeded fits) (record { tag = cache.tag; seed = cache.seed }) cache.geometry
-      (words_of left.table) (all_joined (views_at s clients))
+      → Closes (fits_seeded fits) (tag_at cache s) cache.geometry (words_of left.table)
+      (all_joined (views_at s clients))
   -- under strict capacity the charges that are left in a shard are within its part of it; and the
   -- entries are at most 84 of a hundred slots, as `closes` says
   pub within : (s : ℕ) (left : ClosedShard _)
@@ -125,8 +126,14 @@ pub record IsClosed {T : Type 0} (fits : T → Key → List ℕ → Type 0) (cac
   -- the value that is left of an entry is the one that it was made with
   pub values : (s : ℕ) (left : ClosedShard _)
       → slice_get closed.shards.items s ≡ Some (Some left)
-      → GivesValues (fits_seeded fits) (record { tag = cache.tag; seed = cache.seed })
-      cache.geometry.room (words_of left.table) (all_joined (views_at s clients))
+      → GivesValues (fits_seeded fits) (tag_at cache s) cache.geometry.room (words_of left.table)
+      (all_joined (views_at s clients))
+  -- each entry that is left has a key of its shard, whoever made it
+  pub homes : (s slot : ℕ) (left : ClosedShard _)
+      → slice_get closed.shards.items s ≡ Some (Some left) → slot < cache.geometry.slots
+      → has_entry cache.geometry.room (words_of left.table) slot ≡ true
+      → shard_of (key_at cache.geometry.room (words_of left.table) slot)
+      (length cache.shards.items) ≡ s
   -- there is none but these
   pub full : (s : ℕ) → s < length cache.shards.items
       → (left : ClosedShard _) × (slice_get closed.shards.items s ≡ Some (Some left))

@@ -16,7 +16,7 @@ use Rattle.hcc_cache.specs.declared.client.Client.{Client}
 use Rattle.hcc_cache.specs.declared.closed.Closed.{Closed}
 use Rattle.hcc_cache.specs.declared.seeded.Seeded.{Seeded}
 use Rattle.hcc_cache.specs.Closings.{all_joined, views_at}
-use Rattle.hcc_cache.specs.Keys.{fits_seeded}
+use Rattle.hcc_cache.specs.Keys.{fits_seeded, tag_at}
 
 module _ {T : Type 0} where
   -- No client of these knows of anything that was done at any shard.
@@ -49,8 +49,8 @@ module _ {T : Type 0} where
     pub history : List Done
     pub known : IsMostKnown s clients (length clients) history
     pub allowed : IsAllowed (plan_of shard) history
-    pub shows : ShowsWorld (fits_seeded fits) (record { tag = cache.tag; seed = cache.seed })
-        cache.geometry (words_of left.table) (all_joined (views_at s clients))
+    pub shows : ShowsWorld (fits_seeded fits) (tag_at cache s) cache.geometry
+        (words_of left.table) (all_joined (views_at s clients))
         (world_of (plan_of shard) history)
 
   -- So it is of each shard: closing hides nothing, ages nothing and frees nothing.

@@ -26,7 +26,7 @@ use Rattle.hcc_cache.specs.declared.holding.Kept.TheVariants.{Pinned, Standing}
 use Rattle.hcc_cache.specs.declared.limits.TheConstants.{MOST_SHARDS}
 use Rattle.hcc_cache.specs.declared.seeded.Seeded.{Seeded}
 use Rattle.hcc_cache.specs.Clients.{pin_of, records_in, standalones_in}
-use Rattle.hcc_cache.specs.Keys.{IsKeyOf}
+use Rattle.hcc_cache.specs.Keys.{IsKeyOf, tag_at}
 use Rattle.hcc_cache.specs.Sharding.{key_to, shard_of}
 
 -- Of a client's seats.
@@ -151,7 +151,8 @@ pub record AreHeld {T : Type 0} (seed used : ℕ) (seats : List (ShardSeat T)) (
 
 -- Of a cache.
 
--- Its shards are alike: of its sizes, its capacity and its strictness, with its tag and its seed.
+-- Its shards are alike: of its sizes, its capacity and its strictness. The tag of each has the
+-- cache's tag and seed, and says which of the shards it is.
 pub record AreAlike {T : Type 0} (cache : Cache T) : Type 0 where
   pub some : 1 ≤ length cache.shards.items
   pub few : length cache.shards.items ≤ MOST_SHARDS
@@ -159,7 +160,7 @@ pub record AreAlike {T : Type 0} (cache : Cache T) : Type 0 where
   pub plans : (s : ℕ) (shard : Shard (Seeded T) _) → slice_get cache.shards.items s ≡ Some shard
       → (geometry_of shard ≡ cache.geometry) × (capacity_of shard ≡ cache.capacity)
       × (is_strict shard ≡ cache.strict)
-      × ((plan_of shard).tag ≡ record { tag = cache.tag; seed = cache.seed })
+      × ((plan_of shard).tag ≡ tag_at cache s)
 
 -- The client is one that this cache was made with.
 pub record Knows {T : Type 0} (cache : Cache T) (client : Client T) : Type 0 where

@@ -21,6 +21,7 @@ pub mod ObjectsOpened
 pub mod ObjectsLeft
 pub mod ObjectsClosed
 pub mod Totals
+pub mod Walked
 pub mod Texts
 pub mod Gets
 pub mod Images

@@ -49,6 +49,15 @@ module _ {T : Type 0} where
         → (was : Client T) × (seat : ShardSeat (Seeded T)) × (slice_get old k ≡ Some was)
         × (slice_get seats k ≡ Some seat) × Gains was seat client
 
+-- the tag of the shard of this number of a cache that is configured so
+abbrev pub tag_in : {T : Type 0} → Config → T → (s : ℕ) → Seeded T
+tag_in config tag s = record {
+  tag = tag;
+  seed = config.seed;
+  shards = config.shards;
+  number = s;
+}
+
 module _ {T A : Type 0} where
   -- it has a new seat at each of these shards
   pub record IsDealt (config : Config) (shards : List (Shard (Seeded T) A)) (number : ℕ)
@@ -66,13 +75,14 @@ module _ {T A : Type 0} where
     pub each : (k : ℕ) (client : Client T) → slice_get clients k ≡ Some client
         → IsDealt config shards k client
 
-  -- a shard as it is configured
-  pub record IsConfigured (config : Config) (tag : T) (shard : Shard (Seeded T) A) : Type 0 where
+  -- the shard of this number as it is configured
+  pub record IsConfigured (config : Config) (tag : T) (s : ℕ) (shard : Shard (Seeded T) A)
+      : Type 0 where
     pub geometry : geometry_of shard ≡ shard_geometry config
     pub capacity : capacity_of shard ≡ shard_capacity config
     pub strict : is_strict shard ≡ config.strict
     pub marks : is_marking shard ≡ config.marks
-    pub tag_is : (plan_of shard).tag ≡ record { tag = tag; seed = config.seed }
+    pub tag_is : (plan_of shard).tag ≡ tag_in config tag s
 
 -- A cache as it is configured, with as many shards: whether it was new or began with an image, and
 -- whatever its clients did since.
@@ -84,7 +94,7 @@ pub record IsCacheOf {T : Type 0} (config : Config) (tag : T) (cache : Cache T) 
   pub strict : cache.strict ≡ config.strict
   pub count : length cache.shards.items ≡ config.shards
   pub shards : (s : ℕ) (shard : Shard (Seeded T) _) → slice_get cache.shards.items s ≡ Some shard
-      → IsConfigured config tag shard
+      → IsConfigured config tag s shard
 
 -- In the world that the client knows of each shard no slot shows an entry.
 abbrev pub KnowsNoneShown : {T : Type 0} → Cache T → Client T → Type 0

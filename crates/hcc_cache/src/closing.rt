@@ -19,7 +19,7 @@ ghost use Rattle.hcc_cache.specs.declared.seeded.Seeded.{Seeded};
 ghost use Rattle.hcc_cache.specs.Clients.{held_by};
 ghost use Rattle.hcc_cache.specs.Closings.{all_joined, views_at, with_holder, AreBack, HasLast, IsClosed, IsLeastHolder, KeepsFront, Refuses};
 ghost use Rattle.hcc_cache.specs.Ended.{IsMostKnown, LeavesWorlds};
-ghost use Rattle.hcc_cache.specs.Keys.{fits_seeded};
+ghost use Rattle.hcc_cache.specs.Keys.{fits_seeded, tag_at};
 ghost use Rattle.hcc_cache.specs.Known.{Knows};
 
 use crate::cache::Cache;
@@ -164,8 +164,8 @@ pub fn law_closed<T: Tag>()
         (left : ClosedShard Global) → slice_get cache.shards.items s ≡ Some shard
         → slice_get client.seats.items s ≡ Some seat
         → slice_get closed.shards.items s ≡ Some (Some left)
-        → ShowsWorld (fits_seeded T.fits) (record { tag = cache.tag; seed = cache.seed })
-        cache.geometry (words_of left.table) (view_of seat) (world_at shard.table seat.seat) }
+        → ShowsWorld (fits_seeded T.fits) (tag_at cache s) cache.geometry (words_of left.table)
+        (view_of seat) (world_at shard.table seat.seat) }
 
     // So a slot is visible exactly where that world shows an entry in it.
     ensures shown { (cache : Cache T) (client : Client T) (closed : Closed)

@@ -109,7 +109,7 @@ impl FreedList<Seeded<Objects>> for GoneList {
 
     ghost loads = { 1 };
 
-    ghost whole = { λ list tag key value kept fits. word_whole value fits };
+    ghost whole = { λ list tag key value kept fits. word_whole value fits.right };
 
     #[inline(always)]
     fn is_kept(&self) -> bool {

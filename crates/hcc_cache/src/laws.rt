@@ -4,13 +4,14 @@
 //! lawful world that the shard's words and what its clients know show.
 ghost use Rattle.std.specs.Prelude.{◌≡◌, ℕ, ◌+◌, ◌-◌, ◌*◌, ◌/◌, ◌^◌, ◌<◌, ◌≤◌, ◌↔◌, min, Bool, true, false, List, Option, None, Some, Ok, Result, IsNone, IsOk, IsSome, slice_get};
 ghost use Rattle.hcc_core.specs.declared.limits.TheConstants.{OCCUPANCY_PERCENT};
+ghost use Rattle.hcc_core.specs.declared.slot.Stamp.{Stamp};
 ghost use Rattle.hcc_core.specs.Lawful.{real_in, taken_in};
 ghost use Rattle.hcc_core.specs.Sums.{total};
 ghost use Rattle.hcc_rule.specs.declared.layout.TheConstants.{OCCUPANCY};
 ghost use Rattle.hcc_rule.specs.declared.key.Key.{Key};
 ghost use Rattle.hcc_rule.specs.declared.view.View.{View};
 ghost use Rattle.hcc_rule.specs.Callers.{world_at};
-ghost use Rattle.hcc_rule.specs.Laws.{StateOf, ledger_word, AreMade, AreOfMade, AreTaken, HoldsNothingTaken};
+ghost use Rattle.hcc_rule.specs.Laws.{StateOf, ledger_word, AreMade, AreOfMade, AreTaken, HoldsNothingTaken, IsMade};
 ghost use Rattle.hcc_rule.specs.Seats.{view};
 ghost use Rattle.hcc_charge.specs.declared.reserving.Refused.{Refused};
 ghost use Rattle.hcc_charge.specs.declared.reserving.Reservation.TheVariants.{Reserved};
@@ -41,7 +42,7 @@ ghost use Rattle.hcc_cache.specs.Known.{Knows};
 ghost use Rattle.hcc_cache.specs.Moments.{IsMoment, KnowsShown, plan_in};
 ghost use Rattle.hcc_cache.specs.Opened.{IsCacheOf};
 ghost use Rattle.hcc_cache.specs.Room.{HasRoom, HasRoomBeside, KeepsAs, KeepsPinnedAs, TurnsNone};
-ghost use Rattle.hcc_cache.specs.Sharding.{key_to};
+ghost use Rattle.hcc_cache.specs.Sharding.{key_to, shard_of};
 ghost use Rattle.hcc_cache.specs.Stays.{BeganEachWithin, ReleasesIn, ReleasesPin, Stays, StaysWhereStanding};
 ghost use Rattle.hcc_cache.specs.Totals.{occupancy_in, usage_in, KnowsEach, LoadsEachOccupancy, LoadsEachUsage};
 
@@ -87,6 +88,12 @@ pub fn law_insertions<T: Tag>()
     // it stands in none.
     ensures slots { (config : Config) (tag : T) (s : StateOf (Seeded T))
         (m : IsMoment T.fits config tag s) → AreMade (fits_seeded T.fits) (plan_in m) s }
+
+    // Its key is one of that shard, whichever client made it.
+    ensures homes { (config : Config) (tag : T) (s : StateOf (Seeded T))
+        (m : IsMoment T.fits config tag s) (slot : ℕ) (stamp : Stamp)
+        (made : IsMade (fits_seeded T.fits) (plan_in m) s slot stamp)
+        → shard_of made.kept.made.key config.shards ≡ m.number }
 
     // So is the entry of each reference, whichever client made it, and however it was come by.
     ensures records { (config : Config) (tag : T) (s : StateOf (Seeded T))

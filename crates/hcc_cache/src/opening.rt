@@ -58,8 +58,8 @@ impl<T: Tag + Copy> Cache<T> {
     {
         let mut clients = unseated(alloc, config)?;
         let mut shards = Vec::with_capacity(alloc, config.shards as usize)?;
-        for _ in 0..config.shards {
-            let (shard, seats) = configured(alloc, config, tag)?;
+        for number in 0..config.shards {
+            let (shard, seats) = configured(alloc, config, tag, number)?;
             deal(&mut clients, seats)?;
             shards.push(shard)?;
         }
@@ -75,14 +75,15 @@ impl<T: Tag + Copy> Cache<T> {
     }
 }
 
-/// One shard, and the new seats of all clients.
+/// The shard of this number, and the new seats of all clients.
 fn configured<T: Tag + Copy>(
     alloc: Global,
     config: Config,
     tag: T,
+    number: u32,
 ) -> Result<(Shard<Seeded<T>, Global>, Vec<ShardSeat<Seeded<T>>>), AllocError>
     requires { IsAllowed config }
-    ensures shard { IfOk result (λ made. IsConfigured config tag made.0) }
+    ensures shard { IfOk result (λ made. IsConfigured config tag number made.0) }
     ensures image { IfOk result (λ made. image_of made.0 ≡ []) }
     ensures count { IfOk result (λ made. length made.1.items ≡ config.clients) }
     ensures seats { IfOk result (λ made. AreNew made.0 0 made.1.items) }
@@ -92,6 +93,8 @@ fn configured<T: Tag + Copy>(
     let tag = Seeded {
         tag,
         seed: config.seed,
+        shards: config.shards,
+        number,
     };
     Shard::new(
         alloc,

@@ -7,7 +7,7 @@ ghost use Rattle.hcc_shard.specs.Stays.{BeganWithinLimits, KnowNoEvent};
 ghost use Rattle.hcc_cache.specs.Configs.{IsAllowed, checked, shard_capacity, shard_geometry};
 ghost use Rattle.hcc_cache.specs.Images.{AreRight, Visible, visible_of};
 ghost use Rattle.hcc_cache.specs.Keys.{fits_seeded};
-ghost use Rattle.hcc_cache.specs.Opened.{IsConfigured};
+ghost use Rattle.hcc_cache.specs.Opened.{IsConfigured, tag_in};
 ghost use Rattle.hcc_cache.specs.Reopened.{IsReopened, Starts, image_of};
 ghost use Rattle.hcc_cache.specs.declared.config.Config.{Config};
 ghost use Rattle.hcc_cache.specs.Taken.{IsRoomyFor, split_of};
@@ -88,7 +88,8 @@ impl<T: Tag + Copy> Cache<T> {
         for draft in drafts {
             let entries = draft.entries(alloc)?;
             most = most.max(entries.len() as u64);
-            let (shard, seats) = reopened(alloc, config, tag, &entries)?;
+            let number = shards.len();
+            let (shard, seats) = reopened(alloc, config, tag, number as u32, &entries)?;
             deal(&mut clients, seats)?;
             shards.push(shard)?;
         }
@@ -112,27 +113,32 @@ pub fn law_all_taken()
         → split_of config image ≡ record { taken = image; left = [] } }
 {}
 
-/// One shard that begins with these entries, and the seats of all clients.
+/// The shard of this number, which begins with these entries, and the seats of all clients.
 fn reopened<T: Tag + Copy>(
     alloc: Global,
     config: Config,
     tag: T,
+    number: u32,
     entries: &Vec<ImageEntry>,
 ) -> Result<(Shard<Seeded<T>, Global>, Vec<ShardSeat<Seeded<T>>>), AllocError>
     requires allowed { IsAllowed config }
-    requires fitting { AreFitting (fits_seeded T.fits) (record { tag = tag; seed = config.seed })
+    requires fitting { AreFitting (fits_seeded T.fits) (tag_in config tag number)
         entries.now.items }
     requires taken { refusal_of (shard_geometry config) (shard_capacity config) config.strict
         entries.now.items ≡ None }
-    ensures shard { IfOk result (λ made. IsConfigured config tag made.0) }
+    ensures shard { IfOk result (λ made. IsConfigured config tag number made.0) }
     ensures image { IfOk result (λ made. image_of made.0 ≡ entries.now.items) }
     ensures count { IfOk result (λ made. length made.1.items ≡ config.clients) }
     ensures seats { IfOk result (λ made. AreBegun made.0 entries.now.items made.1.items) }
     ensures began { IfOk result (λ made. BeganWithinLimits made.0 (fits_seeded T.fits)) }
     ensures past { IfOk result (λ made. KnowNoEvent made.1.items) }
 {
-    let seed = config.seed;
-    let tag = Seeded { tag, seed };
+    let tag = Seeded {
+        tag,
+        seed: config.seed,
+        shards: config.shards,
+        number,
+    };
     let made = Shard::reopen(
         alloc,
         config.shard_geometry(),

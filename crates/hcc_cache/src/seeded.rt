@@ -1,4 +1,5 @@
-//! Keys under a seed. The shards know seeded keys only, and values by a tag that has the seed.
+//! Keys under a seed. The shards know seeded keys only, and values by a tag that has the seed, and
+//! says which shard it is of.
 ghost use Rattle.std.specs.Prelude.{◌≡◌, ◌%◌, ◌<◌, ◌≤◌};
 ghost use Rattle.hcc_cache.specs.declared.limits.TheConstants.{MOST_SHARDS};
 ghost use Rattle.hcc_cache.specs.Keys.{key_from};
@@ -7,11 +8,15 @@ ghost use Rattle.hcc_cache.specs.Sharding.{key_to, shard_of};
 use hcc_rule::{Key, Tag};
 use hcc_word::{seeded, unseeded};
 
-/// The caller's tag with the seed: a value fits a seeded key exactly if it fits the caller's key.
+/// The caller's tag with the seed, as one of a cache's shards has it: a value fits a seeded key
+/// exactly if it fits the caller's key, and the key is one of that shard.
 #[derive(Clone, Copy, Debug, PartialEq, Eq)]
 pub(crate) struct Seeded<T> {
     pub(crate) tag: T,
     pub(crate) seed: u64,
+    /// Of how many shards it is the tag of which one.
+    pub(crate) shards: u32,
+    pub(crate) number: u32,
 }
 
 impl<T: Tag> Tag for Seeded<T> {

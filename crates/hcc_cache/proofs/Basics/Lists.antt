@@ -47,6 +47,15 @@ module _ {X : Type 0} where
     | inr e ↦ inr (ap suc e.0, e.1)
   ]
 
+  -- what each element is by its place, and one more by its own, each of a list with one more is
+  pub each_push : (P : ℕ → X → Type 0) (xs : List X) (x : X) → P (length xs) x
+      → ((k : ℕ) (y : X) → slice_get xs k ≡ Some y → P k y)
+      → (k : ℕ) (y : X) → slice_get (xs ++ x ∷ []) k ≡ Some y → P k y
+  each_push P xs x mine all k y h = elim (get_push xs x y k h) [
+    | inl stood ↦ all k y stood
+    | inr last ↦ rw (last.0, ← last.1) mine
+  ]
+
 -- a member of a list that a function makes of another
 pub at_map : {A B : Type 0} (f : A → B) (xs : List A) (k : ℕ) (y : B)
     → slice_get (map f xs) k ≡ Some y → (x : A) × (slice_get xs k ≡ Some x) × (f x ≡ y)

@@ -294,7 +294,7 @@ module _ {T : Type 0} where
           one.geometry ∙ sym made.geometry,
           one.capacity ∙ sym made.capacity,
           one.strict ∙ sym made.strict,
-          rw (made.tag_is, made.seed) one.tag_is,
+          rw (made.tag_is, made.seed, made.count) one.tag_is,
         );
   }
 

@@ -23,11 +23,12 @@ use Rattle.hcc_cache.specs.Configs.{IsAllowed, shard_capacity, shard_geometry}
 use Rattle.hcc_cache.specs.Drafts.{AreDrafts, IsDraft, IsFilled, standing}
 use Rattle.hcc_cache.specs.Ended.{KnowNothing}
 use Rattle.hcc_cache.specs.Images.{AreRight, Visible, visible_from}
-use Rattle.hcc_cache.specs.Keys.{fits_seeded, key_from}
-use Rattle.hcc_cache.specs.Opened.{AreGiven, IsCacheOf, IsConfigured}
+use Rattle.hcc_cache.specs.Keys.{fits_seeded}
+use Rattle.hcc_cache.specs.Opened.{AreGiven, IsCacheOf, IsConfigured, tag_in}
 use Rattle.hcc_cache.specs.Reopened.{BeginsAs, HasAt, IsHomeEntry, IsReopened, IsStarted, image_of, most_in}
 use Rattle.hcc_cache.specs.Sharding.{IsReached}
 use Rattle.hcc_cache.specs.Taken.{IsOneOf, Split, begun, is_taken, places_of, split_of, sum_in, with_all, with_one}
+use Rattle.hcc_cache.proofs.Basics.Lists.{each_push}
 use Rattle.hcc_cache.proofs.Beginnings.ReopenedClientsDealt.{AreSharing, begun_known, most_more, sharing_more}
 use Rattle.hcc_cache.proofs.Beginnings.NewClientsDealt.{get_push, made_alike}
 use Rattle.hcc_cache.proofs.Beginnings.DraftSlots.{reached_past, standing_any, standing_at, standing_each, standing_has, standing_length, standing_rising, standing_total}
@@ -157,17 +158,21 @@ module _ (c : Config) (taken : List Visible) (shard : ℕ) (d : Draft)
           let most = is.within strict in
           omega arith)
 
-  -- Each value is right for its seeded key, where those that were taken are right.
+  -- Each value is right for its seeded key in the shard, where those that were taken are right.
   pub draft_fitting : {T : Type 0} (fits : T → Key → List ℕ → Type 0) (tag : T)
       → AreRight fits tag taken
-      → AreFitting (fits_seeded fits) (record { tag = tag; seed = c.seed })
-      (standing d.places.items)
+      → AreFitting (fits_seeded fits) (tag_in c tag shard) (standing d.places.items)
   draft_fitting fits tag right =
-      standing_each (λ (e : ImageEntry). fits tag (key_from c.seed e.key) e.value.items)
+      standing_each
+      (λ (e : ImageEntry). fits_seeded fits (tag_in c tag shard) e.key e.value.items)
       d.places.items (λ slot e at.
       let from = (is.each slot e at).from in
-      subst (λ (v : Visible). fits tag v.key v.value) (sym from.is)
-      (right_at fits tag c taken from.index from.one right from.there))
+      record {
+        right =
+            subst (λ (v : Visible). fits tag v.key v.value) (sym from.is)
+            (right_at fits tag c taken from.index from.one right from.there);
+        home = (is.belongs slot e at).1;
+      })
 
 -- Of all shards.
 
@@ -181,7 +186,7 @@ pub record IsReopening {T A : Type 0} (fits : T → Key → List ℕ → Type 0)
       → slice_get all (length shards + k) ≡ Some d
   pub count : length shards + length rest ≡ length all
   pub configured : (s : ℕ) (shard : Shard (Seeded T) A) → slice_get shards s ≡ Some shard
-      → IsConfigured c tag shard
+      → IsConfigured c tag s shard
   pub begins : (s : ℕ) (shard : Shard (Seeded T) A) → slice_get shards s ≡ Some shard
       → BeginsAs c taken s shard
   pub began : (s : ℕ) (shard : Shard (Seeded T) A) → slice_get shards s ≡ Some shard
@@ -224,8 +229,8 @@ module _ {T A : Type 0} (fits : T → Key → List ℕ → Type 0) (c : Config) 
     -- One more was opened.
     pub reopening_more : (shard : Shard (Seeded T) A) (now : List (Client T))
         (seats : List (ShardSeat (Seeded T))) (es : List ImageEntry)
-        → es ≡ standing d.places.items → IsConfigured c tag shard → image_of shard ≡ es
-        → AreBegun shard es seats
+        → es ≡ standing d.places.items → IsConfigured c tag (length shards) shard
+        → image_of shard ≡ es → AreBegun shard es seats
         → BeganWithinLimits shard (fits_seeded fits) → KnowNoEvent seats
         → AreGiven 0 clients seats now
         → IsReopening fits c tag taken all (shards ++ shard ∷ []) now (max most (length es)) rest
@@ -245,7 +250,7 @@ module _ {T A : Type 0} (fits : T → Key → List ℕ → Type 0) (c : Config) 
               omega arith in
               ap (slice_get all) (sym index) ∙ at;
           count = omega arith;
-          configured = each_snoc (IsConfigured c tag) shards shard configured is.configured;
+          configured = each_push (IsConfigured c tag) shards shard configured is.configured;
           begins = λ s one h. elim (get_push shards shard one s h) [
             | inl stood ↦ is.begins s one stood
             | inr last ↦ rw (last.0, ← last.1) (record {

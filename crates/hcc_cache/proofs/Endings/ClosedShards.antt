@@ -3,13 +3,15 @@ use Rattle.std.proofs.Common.{◌≡◌, inl, inr, ℕ, ◌+◌, ◌-◌, ◌<�
 use Rattle.std.proofs.lemmas.Option.{same_Some}
 use Rattle.std.proofs.lemmas.List.{length-take-le, take_all, take-take, length-reverse}
 use Rattle.std.specs.declared.alloc.Global.{Global}
+use Rattle.hcc_core.specs.declared.slot.Stamp.{Stamp}
 use Rattle.hcc_core.proofs.ListLemmas.{read_last}
 use Rattle.hcc_rule.specs.declared.geometry.Geometry.{Geometry}
 use Rattle.hcc_rule.specs.declared.key.Key.{Key}
+use Rattle.hcc_rule.specs.declared.layout.TheConstants.{KEY0, KEY1}
 use Rattle.hcc_rule.specs.declared.view.View.{View}
 use Rattle.hcc_core.specs.World.{State}
 use Rattle.hcc_rule.specs.Acts.{IsAllowed, world_of}
-use Rattle.hcc_rule.specs.Closing.{Closes, IsWithin, words_of}
+use Rattle.hcc_rule.specs.Closing.{Closes, IsKept, IsWithin, data_at, key_at, words_of}
 use Rattle.hcc_rule.specs.Ending.{ShowsWorld}
 use Rattle.hcc_rule.specs.Views.{named_by}
 use Rattle.hcc_rule.specs.Records.{weight_on}
@@ -29,9 +31,10 @@ use Rattle.hcc_cache.specs.declared.seeded.Seeded.{Seeded}
 use Rattle.hcc_cache.specs.Clients.{view_at, view_by}
 use Rattle.hcc_cache.specs.Closings.{all_joined, views_at, AreBack, HasLast, IsClosed, KeepsFront}
 use Rattle.hcc_cache.specs.Ended.{IsMostKnown, LeavesWorld}
-use Rattle.hcc_cache.specs.Keys.{fits_seeded}
+use Rattle.hcc_cache.specs.Keys.{fits_seeded, tag_at}
 use Rattle.hcc_cache.specs.Known.{IsSeated}
 use Rattle.hcc_cache.specs.Left.{AreWhole}
+use Rattle.hcc_cache.specs.Sharding.{shard_of}
 use Rattle.hcc_cache.proofs.Endings.WithoutHandles.{holds_nothing}
 use Rattle.hcc_cache.proofs.Endings.JoinedSeats.{all_named, from_view, views_count, views_same}
 use Rattle.hcc_cache.proofs.Basics.Lists.{get_in_take, get_push, get_reverse, get_take}
@@ -60,13 +63,25 @@ shows_same : {T : Type 0} (fits : T → Key → List ℕ → Type 0) (tag same_t
 shows_same fits tag same_tag geometry same_geometry words v w world tags geometries views shows =
     rw (tags, geometries, views) at shows
 
+-- An entry that was made has a key of its shard.
+key_home : {T : Type 0} (fits : T → Key → List ℕ → Type 0) (cache : Cache T) (s : ℕ)
+    (words : List ℕ) (v : View (Seeded T)) (slot : ℕ) (stamp : Stamp)
+    → IsKept (fits_seeded fits) (tag_at cache s) cache.geometry.room words v slot stamp
+    → shard_of (key_at cache.geometry.room words slot) (length cache.shards.items) ≡ s
+key_home fits cache s words v slot stamp kept =
+    let first : data_at cache.geometry.room words slot KEY0 ≡ kept.made.key.w0 =
+    kept.says KEY0 (omega arith) in
+    ap (λ (w : ℕ). shard_of (record { w0 = w; w1 = data_at cache.geometry.room words slot KEY1 })
+    (length cache.shards.items)) first
+    ∙ kept.right.fitting.home
+
 module _ {T : Type 0} (fits : T → Key → List ℕ → Type 0) (cache : Cache T)
     (old : List (Client T)) where
   -- what is left of the shard of this number, closed by what the clients know of it
   pub record IsLeft (s : ℕ) (left : ClosedShard Global) : Type 0 where
     pub size : left.table.geometry ≡ cache.geometry
-    pub closes : Closes (fits_seeded fits) (record { tag = cache.tag; seed = cache.seed })
-        cache.geometry (words_of left.table) (all_joined (views_at s old))
+    pub closes : Closes (fits_seeded fits) (tag_at cache s) cache.geometry (words_of left.table)
+        (all_joined (views_at s old))
     pub within : IsWithin cache.geometry cache.capacity cache.strict (words_of left.table)
     pub world : (shard : Shard (Seeded T) Global) → slice_get cache.shards.items s ≡ Some shard
         → LeavesWorld fits cache old s shard left
@@ -229,7 +244,7 @@ module _ {T : Type 0} (fits : T → Key → List ℕ → Type 0) (cache : Cache 
 
       alike : (geometry_of shard ≡ cache.geometry) × (capacity_of shard ≡ cache.capacity)
           × (is_strict shard ≡ cache.strict)
-          × ((plan_of shard).tag ≡ record { tag = cache.tag; seed = cache.seed })
+          × ((plan_of shard).tag ≡ tag_at cache (length shards))
       alike =
           let client = there old 0 some in
           (back.known 0 client.0 client.1).alike.plans (length shards) shard stands
@@ -364,9 +379,11 @@ module _ {T : Type 0} (fits : T → Key → List ℕ → Type 0) (cache : Cache 
           let shard = there cache.shards.items s (omega arith) in
           (left_of s left (rw same at h)).closes.held slot inside has
           ∙ ap (weight_on slot) (joined_nothing s shard.0 shard.1 some);
-      values = λ s left h. value_kept (fits_seeded fits)
-          (record { tag = cache.tag; seed = cache.seed }) cache.geometry.room
+      values = λ s left h. value_kept (fits_seeded fits) (tag_at cache s) cache.geometry.room
           (words_of left.table) (all_joined (views_at s old));
+      homes = λ s slot left h inside has.
+          key_home fits cache s (words_of left.table) (all_joined (views_at s old)) slot _
+          ((left_of s left (rw same at h)).closes.kept slot inside has);
       full = λ s inside.
           let n = items_count in
           let one = there items s (omega arith) in

@@ -26,7 +26,7 @@ use Rattle.hcc_cache.specs.declared.client.Client.{Client}
 use Rattle.hcc_cache.specs.declared.seeded.Seeded.{Seeded}
 use Rattle.hcc_cache.specs.Clients.{view_by}
 use Rattle.hcc_cache.specs.Ended.{LeavesWorld}
-use Rattle.hcc_cache.specs.Keys.{fits_seeded}
+use Rattle.hcc_cache.specs.Keys.{fits_seeded, tag_at}
 
 module _ {T : Type 0} (fits : T → Key → List ℕ → Type 0) (cache : Cache T) (client : Client T)
     (s : ℕ) (shard : Shard (Seeded T) Global) (seat : ShardSeat (Seeded T))
@@ -44,16 +44,14 @@ module _ {T : Type 0} (fits : T → Key → List ℕ → Type 0) (cache : Cache 
       let seat_is : known.seat ≡ seat = same_Some _ _ (sym known.seat_is ∙ read ∙ sits) in
       known.knows ∙ ap past_of seat_is
 
-  pub closed_alone : ShowsWorld (fits_seeded fits)
-      (record { tag = cache.tag; seed = cache.seed }) cache.geometry (words_of left.table)
-      (view_of seat) (world_at shard.table seat.seat)
+  pub closed_alone : ShowsWorld (fits_seeded fits) (tag_at cache s) cache.geometry
+      (words_of left.table) (view_of seat) (world_at shard.table seat.seat)
   closed_alone =
       let viewed : view_by (slice_get client.seats.items s) ≡ view_of seat = ap view_by sits in
-      subst (λ h. ShowsWorld (fits_seeded fits) (record { tag = cache.tag; seed = cache.seed })
-      cache.geometry (words_of left.table) (view_of seat) (world_of (plan_of shard) h)) known_is
-      (subst (λ v. ShowsWorld (fits_seeded fits) (record { tag = cache.tag; seed = cache.seed })
-      cache.geometry (words_of left.table) v (world_of (plan_of shard) leaves.history)) viewed
-      leaves.shows)
+      subst (λ h. ShowsWorld (fits_seeded fits) (tag_at cache s) cache.geometry
+      (words_of left.table) (view_of seat) (world_of (plan_of shard) h)) known_is
+      (subst (λ v. ShowsWorld (fits_seeded fits) (tag_at cache s) cache.geometry
+      (words_of left.table) v (world_of (plan_of shard) leaves.history)) viewed leaves.shows)
 
 module _ {T : Type 0} (fits : T → Key → List ℕ → Type 0) (tag : T) (room : ℕ) (words : List ℕ)
     (v : View T) (s : ℕ) where

@@ -1,10 +1,10 @@
 -- Standalone entries after a call.
-use Rattle.std.proofs.Common.{◌≡◌, ◌⊎◌, inl, inr, ℕ, ◌+◌, Some, None, sym, refl, ap, ◌∙◌, arith}
+use Rattle.std.proofs.Common.{◌≡◌, inl, inr, ℕ, ◌+◌, Some, None, sym, refl, ap, ◌∙◌, arith}
 use Rattle.std.proofs.lemmas.Bool.{cases_eq}
 use Rattle.slab.specs.Slab.{get, slab_len, Updates}
 use Rattle.hcc_cache.specs.declared.client.Client.{Client}
 use Rattle.hcc_cache.specs.declared.holding.Alone.{Alone}
-use Rattle.hcc_cache.specs.Alones.{AreAlone, LessAlone, MoreAlone}
+use Rattle.hcc_cache.specs.Alones.{AreAlone, MoreAlone}
 use Rattle.hcc_cache.proofs.Basics.SlabSums.{len_updated, one_of}
 use Rattle.hcc_cache.proofs.Handles.SameHolds.{freed_is, stood_there, written_is}
 

@@ -36,7 +36,7 @@ words_left cache clients closed is s slot left there inside entry =
     let within = rw size at inside in
     let has = rw size at entry in
     let kept = (is.closes s left there).kept slot within has in
-    let long : length kept.made.value ≡ 8 = kept.right.fitting in
+    let long : length kept.made.value ≡ 8 = kept.right.fitting.right in
     rw size (kept.says LENGTH (omega arith) ∙ long)
 
 -- The clients that came back were all gathered.

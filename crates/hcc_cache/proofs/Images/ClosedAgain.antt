@@ -42,7 +42,7 @@ use Rattle.hcc_cache.specs.declared.config.Config.{Config}
 use Rattle.hcc_cache.specs.Closings.{AreBack, IsClosed, all_joined, views_at}
 use Rattle.hcc_cache.specs.Ended.{LeavesWorlds}
 use Rattle.hcc_cache.specs.Images.{Visible, visible_at, visible_entries, visible_from, visible_in}
-use Rattle.hcc_cache.specs.Keys.{fits_seeded, key_from}
+use Rattle.hcc_cache.specs.Keys.{fits_seeded, key_from, tag_at}
 use Rattle.hcc_cache.specs.Opened.{IsCacheOf}
 use Rattle.hcc_cache.specs.Reopened.{IsReopened}
 use Rattle.hcc_cache.specs.Taken.{Split, begun, home_of, sum_in}
@@ -209,11 +209,11 @@ module _ {T : Type 0} (fits : T → Key → List ℕ → Type 0) (config : Confi
         let none : world.history ≡ [] =
         known.knows ∙ again.past known.index known.client known.there s known.seat known.seat_is in
         let shows =
-        subst (λ h. ShowsWorld (fits_seeded fits) (record { tag = next.tag; seed = next.seed })
-        next.geometry (words_of left.table) (all_joined (views_at s started)) (world_of plan h))
-        none world.shows in
-        let first = shard_gives (fits_seeded fits) (record { tag = next.tag; seed = next.seed })
-        next.geometry (all_joined (views_at s started)) (world_of plan []) last.seed f left
+        subst (λ h. ShowsWorld (fits_seeded fits) (tag_at next s) next.geometry
+        (words_of left.table) (all_joined (views_at s started)) (world_of plan h)) none
+        world.shows in
+        let first = shard_gives (fits_seeded fits) (tag_at next s) next.geometry
+        (all_joined (views_at s started)) (world_of plan []) last.seed f left
         (ended.size s left at) shows in
         let second = begun_gives last.seed plan.geometry.slots f (entries_in plan.image)
         (again.began s shard.0 shard.1).rising in

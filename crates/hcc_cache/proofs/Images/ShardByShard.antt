@@ -120,7 +120,7 @@ module _ {T : Type 0} (fits : T → Key → List ℕ → Type 0) (cache : Cache 
       let second : data_at cache.geometry.room (words_of left.table) slot KEY1
       ≡ kept.made.key.w1 = kept.says KEY1 (omega arith) in
       let value = is.values s left here slot (closes.stamp_at slot) kept in
-      rw (size, first, second, value, is.seed) kept.right.fitting
+      rw (size, first, second, value, is.seed) kept.right.fitting.right
 
   -- So is all that is visible.
   pub visible_right : AreRight fits cache.tag (visible_entries closed.seed closed.shards.items)

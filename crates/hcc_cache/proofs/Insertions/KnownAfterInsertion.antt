@@ -227,16 +227,17 @@ module _ {T : Type 0} where
         → ((k : ℕ) → k < length value → get_or value k 0 < 256)
         → (0 < draft.charge) × (draft.charge < 2 ^ 32)
         → (1 ≤ draft.countdown) × (draft.countdown ≤ MOST_COUNTDOWN)
-        → draft.serial ≡ old.used → key_from cache.seed draft.key ≡ key → 0 < old.left
+        → draft.serial ≡ old.used → key_from cache.seed draft.key ≡ key
+        → shard_of draft.key (length cache.shards.items) ≡ i → 0 < old.left
         → IsInsertable (fits_seeded fits) (plan_of shard) draft value (view_of was)
-    insertable_at fits key value draft right short bytes paid countdown serial undone some =
+    insertable_at fits key value draft right short bytes paid countdown serial undone home some =
         let alike = at.knows.alike.plans i shard at.shard_is in
         let next = next_at cache old new i shard was is at some in
         let room : (plan_of shard).geometry.room ≡ cache.geometry.room =
         ap (λ (g : Geometry). g.room) (shard.table.planned.0 ∙ alike.0) in
         record {
           right = record {
-            fitting = rw (alike.3, undone) right;
+            fitting = rw alike.3 (record { right = rw undone right; home = home });
             short = rw room short;
             bytes = each_read (λ b. b < 256) value bytes;
             numbered = rw serial (next.low);

@@ -25,7 +25,7 @@ use Rattle.hcc_cache.specs.declared.holding.Kept.TheVariants.{Pinned}
 use Rattle.hcc_cache.specs.declared.seeded.Seeded.{Seeded}
 use Rattle.hcc_cache.specs.Calls.{Finds, Gains, KeepsAll, Misses, SearchesFor, TakesAtMost, TakesFor, UsesNone, Works, shard_in}
 use Rattle.hcc_cache.specs.Clients.{held_entry, pin_of}
-use Rattle.hcc_cache.specs.Keys.{fits_seeded, key_from}
+use Rattle.hcc_cache.specs.Keys.{fits_seeded, key_from, tag_at}
 use Rattle.hcc_cache.specs.Sharding.{key_to, shard_of}
 use Rattle.hcc_cache.specs.Known.{IsSeated, Knows}
 use Rattle.hcc_cache.proofs.Clients.AtOneShard.{ChangesAt, IsAt, did_at, home_kept, knows_at, seated_at, takes_at, takes_for, works_at}
@@ -245,10 +245,12 @@ module _ {T : Type 0} where
       finds fits key there undone found =
           let seated = seated_at cache old new i shard was is at in
           let alike = at.knows.alike.plans i shard at.shard_is in
-          let tag : (view_of was).tag ≡ Some (record { tag = cache.tag; seed = cache.seed }) =
+          let tag : (view_of was).tag ≡ Some (tag_at cache i) =
           seated.rests.at.tagged ∙ ap Some alike.3 in
-          let right : fits cache.tag (key_from cache.seed (key_to cache.seed key)) r.entry.value =
+          let fitting : fits_seeded fits (tag_at cache i) (key_to cache.seed key) r.entry.value =
           rw tag at found.right in
+          let right : fits cache.tag (key_from cache.seed (key_to cache.seed key)) r.entry.value =
+          fitting.right in
           record {
             found = r;
             v = view_of was;

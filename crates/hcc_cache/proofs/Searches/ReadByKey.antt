@@ -15,7 +15,7 @@ use Rattle.hcc_cache.specs.declared.client.Client.{Client}
 use Rattle.hcc_cache.specs.declared.seeded.Seeded.{Seeded}
 use Rattle.hcc_cache.specs.Calls.{Works, shard_in}
 use Rattle.hcc_cache.specs.Gets.{GetsFor, ReadsOne, SeeksAt}
-use Rattle.hcc_cache.specs.Keys.{fits_seeded, key_from}
+use Rattle.hcc_cache.specs.Keys.{fits_seeded, key_from, tag_at}
 use Rattle.hcc_cache.specs.Sharding.{key_to}
 use Rattle.hcc_cache.proofs.Clients.AtOneShard.{ChangesAt, IsAt, seated_at, works_at}
 use Rattle.hcc_cache.proofs.Searches.MissedOrErasedKeys.{all_held_dead}
@@ -51,8 +51,10 @@ module _ {T : Type 0} (cache : Cache T) (old new : Client T) (i : ℕ) (shard : 
       let there = r.there in
       let asked : key_from cache.seed (key_of there.entry) ≡ key =
       ap (key_from cache.seed) there.asked ∙ undone in
-      let right : fits cache.tag (key_from cache.seed (key_of there.entry)) there.entry.value =
+      let fitting : fits_seeded fits (tag_at cache i) (key_of there.entry) there.entry.value =
       rw alike.3 at there.right.right in
+      let right : fits cache.tag (key_from cache.seed (key_of there.entry)) there.entry.value =
+      fitting.right in
       record {
         entry = there.entry;
         asked = asked;
@@ -67,10 +69,12 @@ module _ {T : Type 0} (cache : Cache T) (old new : Client T) (i : ℕ) (shard : 
       → ReadsOne cache fits key got before after old
   reads_held got r =
       let alike = at.knows.alike.plans i shard at.shard_is in
-      let tag : (view_of was).tag ≡ Some (record { tag = cache.tag; seed = cache.seed }) =
+      let tag : (view_of was).tag ≡ Some (tag_at cache i) =
       (seated_at cache old old i shard was was at).rests.at.tagged ∙ ap Some alike.3 in
+      let fitting : fits_seeded fits (tag_at cache i) (key_to cache.seed key) r.found.entry.value =
+      rw tag at r.finds.right in
       let right : fits cache.tag (key_from cache.seed (key_to cache.seed key))
-      r.found.entry.value = rw tag at r.finds.right in
+      r.found.entry.value = fitting.right in
       record {
         entry = r.found.entry;
         asked = ap (key_from cache.seed) r.finds.asked ∙ undone;

@@ -143,6 +143,55 @@ fn a_full_list_is_told_of(rt: HostRuntime) {
     assert_eq!(rt; placed, Ok(Placing::Placed));
 }
 
+/// A walk over the slots holds each visible entry once. One that was erased while the list was full
+/// is freed by a walk once there is room.
+#[test]
+fn a_walk_holds_each_entry(rt: HostRuntime) {
+    let (cache, mut me, _room) = begins(&rt, rt.alloc());
+    for number in 0u16..5 {
+        let placed = cache.insert(
+            &mut me,
+            key(number as u64),
+            object(number),
+            7,
+            Priority::Low,
+        );
+        assert_eq!(rt; placed, Ok(Placing::Placed));
+    }
+    for number in 0u64..5 {
+        assert_eq!(rt; cache.erase(&mut me, key(number)), 1);
+    }
+    assert_eq!(rt; walked(&rt, &cache, &mut me), 0);
+    assert_eq!(rt; me.untaken(), 4);
+    assert_eq!(rt; taken(&cache, &mut me), Some((key(3), object(3))));
+    let placed = cache.insert(&mut me, key(9), object(9), 7, Priority::Low);
+    assert_eq!(rt; placed, Ok(Placing::Placed));
+    assert_eq!(rt; walked(&rt, &cache, &mut me), 9);
+    assert_eq!(rt; taken(&cache, &mut me), Some((key(4), object(4))));
+    assert_eq!(rt; cache.pin_at(&mut me, 1, 0), Ok(None));
+    assert_eq!(rt; cache.pin_at(&mut me, 0, 8), Ok(None));
+}
+
+/// The sum of the numbers of what a walk holds.
+fn walked(rt: &impl Abort, cache: &ObjectCache, client: &mut ObjectClient) -> u64
+    requires { KnowsObjects cache.now client.old }
+    ensures { KnowsObjects cache.now client.new }
+{
+    let mut sum = 0u64;
+    for slot in 0..SMALL.slots {
+        if let Ok(Some(held)) = cache.pin_at(client, 0, slot) {
+            assert_eq!(rt; (held.object, held.charge), (object(held.object.kind), 7));
+            assert_eq!(rt; held.key, key(held.object.kind as u64));
+            sum = sum.wrapping_add(held.key.w0);
+            assert!(rt;
+                !gives_back(rt, cache, client, held.handle),
+                "the entry is gone"
+            );
+        }
+    }
+    sum
+}
+
 /// Where no place is found an object stands alone until its last handle is released, and goes onto
 /// the list then, which has a place for it; where none is left no such insertion is begun.
 #[test]

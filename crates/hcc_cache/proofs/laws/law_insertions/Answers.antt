@@ -1,5 +1,14 @@
 use Rattle.hcc_shard.specs.Callers.{plan_of}
+use Rattle.hcc_cache.specs.Keys.{fits_seeded}
+use Rattle.hcc_cache.specs.Opened.{tag_in}
 use Rattle.hcc_cache.proofs.laws.law_insertions.Goals as goal
+
+pub returns-clause-homes : goal.returns-clause-homes
+returns-clause-homes g c config tag s m slot stamp made =
+    let one = m.cache_is.shards m.number m.shard m.there in
+    let fitting : fits_seeded g.T.Tag.fits (tag_in config tag m.number) made.kept.made.key
+    made.kept.made.value = rw one.tag_is at made.kept.right.fitting in
+    fitting.home
 
 pub returns-clause-records : goal.returns-clause-records
 returns-clause-records g c config tag s m number v seen =

@@ -19,8 +19,8 @@ use Rattle.hcc_cache.specs.Room.{HasRoom, HasRoomBeside}
 use Rattle.hcc_cache.proofs.Insertions.WithoutEviction.{found_beside, found_idles, found_idles_pinned, found_room, inserts_keep, keeps_as, keeps_keys, keeps_pinned_as, keeps_pinned_keys, knows_over}
 use Rattle.hcc_cache.proofs.laws.law_room.Goals as goal
 
-module _ {T : Type 0} (config : Config) (tag : T) (shard : Shard (Seeded T) Global)
-    (made : IsConfigured config tag shard) where
+module _ {T : Type 0} (config : Config) (tag : T) (shard : Shard (Seeded T) Global) {number : ℕ}
+    (made : IsConfigured config tag number shard) where
   alone : config.clients ≡ 1 → clients_of shard.table ≡ 1
   alone one = ap (λ (x : Geometry). x.clients) made.geometry ∙ one
 

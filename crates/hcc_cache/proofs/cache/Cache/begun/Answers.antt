@@ -27,7 +27,9 @@ reopened-requires-clause-fitting g c =
     let taken = (split_of config (map visible_of c.args.image.items)).taken in
     let draft = c.in-Some.draft in
     let before = rw c.in-Some.ensures.steps.0 at c.loop-draft.invariant in
-    rw c.in_ok-entries.ensures (draft_fitting config taken _ draft
+    let number : c.len-number.result ≡ length c.loop-draft.shards.items =
+    c.len-number.ensures ∙ c.loop-draft.shards.ok.0 in
+    rw (c.in_ok-entries.ensures, number) (draft_fitting config taken _ draft
     (next_draft g.T.Tag.fits config c.args.tag taken _ _ _ _ draft _ before) g.T.Tag.fits
     c.args.tag before.right)
 
@@ -51,10 +53,12 @@ loop-draft-preserved g c =
     let most : c.max-most.result ≡ max c.loop-draft.most (length es) =
     c.max-most.ensures ∙ ap (max c.loop-draft.most) (c.len.ensures ∙ c.in_ok-entries.entries.ok.0)
     in
+    let number : c.len-number.result ≡ length c.loop-draft.shards.items =
+    c.len-number.ensures ∙ c.loop-draft.shards.ok.0 in
     rw (c.in_ok-push.ensures.items, most) (reopening_more g.T.Tag.fits config c.args.tag taken _
     c.loop-draft.shards.items c.loop-draft.clients.items c.loop-draft.most draft
     c.next.new.self.rest.items before c.in_ok-shard.shard c.deal.new.clients.items
-    c.in_ok-shard.seats.items es c.in_ok-entries.ensures made.shard made.image
+    c.in_ok-shard.seats.items es c.in_ok-entries.ensures (rw number at made.shard) made.image
     made.seats made.began made.past c.in_ok-deal.ensures)
 
 pub returns-clause-made : goal.returns-clause-made

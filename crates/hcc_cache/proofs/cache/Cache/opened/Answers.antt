@@ -5,12 +5,13 @@ use Rattle.hcc_shard.specs.Stays.{BeganWithinLimits}
 use Rattle.hcc_cache.specs.Keys.{fits_seeded}
 use Rattle.hcc_cache.specs.Opened.{IsConfigured}
 use Rattle.hcc_cache.specs.Reopened.{image_of}
+use Rattle.hcc_cache.proofs.Basics.Lists.{each_push}
 use Rattle.hcc_cache.proofs.Beginnings.NewClientsDealt.{dealt_more, dealt_none, opened}
 use Rattle.hcc_cache.proofs.Beginnings.KnowingNothing.{nothing_first, nothing_more}
 use Rattle.hcc_cache.proofs.cache.Cache.opened.Goals as goal
 
-pub loop-init : goal.loop-init
-loop-init g c =
+pub loop-number-init : goal.loop-number-init
+loop-number-init g c =
     let items = c.in_ok-shards.ensures.items in
     record {
       count = ap length items;
@@ -22,10 +23,10 @@ loop-init g c =
       past = nothing_first c.args.config c.in_ok-clients.clients.items c.in_ok-clients.ensures;
     }
 
-pub loop-preserved : goal.loop-preserved
-loop-preserved g c =
-    let kept = c.loop.invariant in
-    let old = c.loop.shards.items in
+pub loop-number-preserved : goal.loop-number-preserved
+loop-number-preserved g c =
+    let kept = c.loop-number.invariant in
+    let old = c.loop-number.shards.items in
     let made = c.in_ok-shard.ensures in
     let shard = c.in_ok-shard.shard in
     let items : c.push.new.self.items ≡ old ++ shard ∷ [] = c.in_ok-push.ensures.items in
@@ -33,26 +34,27 @@ loop-preserved g c =
     record {
       count = longer ∙ ap (λ n. n + 1) kept.count;
       dealt = rw items
-          (dealt_more c.args.config old c.loop.clients.items c.deal.new.clients.items shard
+          (dealt_more c.args.config old c.loop-number.clients.items c.deal.new.clients.items shard
           c.in_ok-shard.seats.items kept.dealt c.in_ok-deal.ensures made.seats);
       configured = rw items
-          (each_snoc (IsConfigured c.args.config c.args.tag) old shard made.shard kept.configured);
+          (each_push (IsConfigured c.args.config c.args.tag) old shard
+          (rw kept.count made.shard) kept.configured);
       images = rw items (each_snoc (λ z. image_of z ≡ []) old shard made.image kept.images);
       began = rw items
           (each_snoc (λ z. BeganWithinLimits z (fits_seeded g.T.Tag.fits)) old shard made.began
           kept.began);
-      past = nothing_more c.loop.clients.items c.deal.new.clients.items
+      past = nothing_more c.loop-number.clients.items c.deal.new.clients.items
           c.in_ok-shard.seats.items kept.past made.past c.in_ok-deal.ensures;
     }
 
 pub returns : goal.returns
 returns g c =
-    let kept = c.loop.invariant in
+    let kept = c.loop-number.invariant in
     let counted = kept.count in
-    let done = c.loop-test.false in
+    let done = c.loop-number-test.false in
     record {
       made =
-          opened c.args.config c.args.tag _ c.loop.clients.items c.requires (record {
+          opened c.args.config c.args.tag _ c.loop-number.clients.items c.requires (record {
             tag_is = refl;
             seed = refl;
             geometry = c.shard_geometry.ensures;

@@ -8,12 +8,12 @@ use Rattle.hcc_cache.specs.Opened.{AreDealt, IsConfigured}
 use Rattle.hcc_cache.specs.Reopened.{image_of}
 use Rattle.hcc_cache.proofs.cache.Cache.opened.Given as goal
 
-abbrev pub invariant-loop : goal.invariant-loop
-invariant-loop g l = record {
-  count : length l.shards.items ≡ l.counter;
+abbrev pub invariant-loop-number : goal.invariant-loop-number
+invariant-loop-number g l = record {
+  count : length l.shards.items ≡ l.number;
   dealt : AreDealt l.config l.shards.items l.clients.items;
   configured : (s : ℕ) (shard : Shard (Seeded g.row.T.Denot) _)
-      → slice_get l.shards.items s ≡ Some shard → IsConfigured l.config l.tag shard;
+      → slice_get l.shards.items s ≡ Some shard → IsConfigured l.config l.tag s shard;
   images : (s : ℕ) (shard : Shard (Seeded g.row.T.Denot) _)
       → slice_get l.shards.items s ≡ Some shard → image_of shard ≡ [];
   began : (s : ℕ) (shard : Shard (Seeded g.row.T.Denot) _)

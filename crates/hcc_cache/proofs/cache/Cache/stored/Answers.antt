@@ -44,7 +44,8 @@ insert-requires-clause-may g c =
     insertable_at cache old old i shard was was at g.T.Tag.fits c.args.key c.args.value.now _
     c.requires.fits c.requires.short (λ k inside. omega (arith, c.type_inv.value k))
     (c.requires.paid, c.ranges.charge.fits) c.countdown.ensures.within
-    c.next_serial.ensures.serial c.key_to-seeded.ensures.undone c.requires.some
+    c.next_serial.ensures.serial c.key_to-seeded.ensures.undone
+    (sym c.shard_number-shard.ensures.value) c.requires.some
 
 pub returns : goal.returns
 returns g c =

@@ -1,4 +1,4 @@
-use Rattle.std.proofs.Common.{◌≡◌, ◌∙◌, ◌-◌, Some, Ok, Err, length, ap, refl, subst, arith}
+use Rattle.std.proofs.Common.{◌≡◌, ◌∙◌, ◌-◌, Some, Ok, Err, length, ap, refl, subst, sym, arith}
 use Rattle.hcc_rule.specs.declared.steps.shows.Draft.{Draft}
 use Rattle.hcc_shard.specs.declared.inserting.Pinned.TheVariants.{Placed, Standalone}
 use Rattle.hcc_table.specs.Lists.{Hands}
@@ -48,7 +48,7 @@ insert_pinned-requires-clause-may g c =
     c.as_bytes-bytes.result.now _ (rw read c.requires.fits) (rw read c.requires.short)
     (λ k inside. omega (arith, c.type_inv.bytes k))
     (c.requires.paid, c.ranges.charge.fits) c.countdown.ensures.within refl
-    c.key_to-seeded.ensures.undone c.requires.free.1
+    c.key_to-seeded.ensures.undone (sym c.shard_number-shard.ensures.value) c.requires.free.1
 
 pub insert_pinned-requires-clause-few : goal.insert_pinned-requires-clause-few
 insert_pinned-requires-clause-few g c =
