@@ -1,6 +1,6 @@
 -- What each call of a client of a cache of objects comes to: what it answers, and what it leaves of
 -- the session.
-use Rattle.std.specs.Prelude.{◌≡◌, ℕ, ◌+◌, ◌*◌, ◌<◌, ◌≤◌, ◌^◌, ◌++◌, ◌∷◌, [], ◌↔◌, Bool, true, false, Option, Result, Err, IfOk, IfErr, IfSome, IfNone, None, Ok, OnOk, OnErr, IsOk, IsErrOf, MatchResult}
+use Rattle.std.specs.Prelude.{◌≡◌, ℕ, ◌+◌, ◌*◌, ◌<◌, ◌≤◌, ◌^◌, ◌++◌, ◌∷◌, [], ◌↔◌, Bool, true, Option, Result, Err, IfOk, IfErr, IfSome, IfNone, None, Ok, OnOk, OnErr, IsOk, IsErrOf, MatchResult}
 use Rattle.std.specs.Arc.{arc_value}
 use Rattle.hcc_word.specs.declared.objects.TheConstants.{ADDRESS_BITS}
 use Rattle.hcc_rule.specs.declared.key.Key.{Key}
