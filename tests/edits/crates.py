@@ -78,6 +78,9 @@ def owner_in(head):
     found = re.match(r"(?:unsafe )?impl(?:<.*?>)? (?:(.*) for )?&?(?:'\w+ )?(\w+)", head)
     if not found:
         return None
+    of_one = re.match(r"impl (\w+)<(\w+)>", head)
+    if of_one:
+        return f"{of_one[1]}+{of_one[2]}"
     trait = re.sub(r"'\w+", "", found[1] or "")
     return found[2] + "".join(re.findall(r"\w+", trait))
 
