@@ -179,17 +179,27 @@ fn walked(rt: &impl Abort, cache: &ObjectCache, client: &mut ObjectClient) -> u6
 {
     let mut sum = 0u64;
     for slot in 0..SMALL.slots {
-        if let Ok(Some(held)) = cache.pin_at(client, 0, slot) {
-            assert_eq!(rt; (held.object, held.charge), (object(held.object.kind), 7));
-            assert_eq!(rt; held.key, key(held.object.kind as u64));
-            sum = sum.wrapping_add(held.key.w0);
-            assert!(rt;
-                !gives_back(rt, cache, client, held.handle),
-                "the entry is gone"
-            );
-        }
+        sum = sum.wrapping_add(number_at(rt, cache, client, slot));
     }
     sum
+}
+
+/// The number of what a walk holds at a slot; 0 where it holds nothing.
+fn number_at(rt: &impl Abort, cache: &ObjectCache, client: &mut ObjectClient, slot: u32) -> u64
+    requires { KnowsObjects cache.now client.old }
+    ensures { KnowsObjects cache.now client.new }
+{
+    let Ok(Some(held)) = cache.pin_at(client, 0, slot) else {
+        return 0;
+    };
+    let number = held.object.kind;
+    assert_eq!(rt; (held.key, held.charge), (key(number as u64), 7));
+    assert_eq!(rt; held.object, object(number));
+    assert!(rt;
+        !gives_back(rt, cache, client, held.handle),
+        "the entry is gone"
+    );
+    number as u64
 }
 
 /// Where no place is found an object stands alone until its last handle is released, and goes onto
