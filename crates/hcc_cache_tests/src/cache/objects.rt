@@ -1,13 +1,13 @@
 //! Objects: what each call answers, and what is handed back.
-ghost use Rattle.std.specs.Prelude.{◌≡◌, ◌≤◌, ◌∷◌, [], ℕ, Err, Some, slice_get};
+ghost use Rattle.std.specs.Prelude.{◌≡◌, ◌≤◌, ◌∷◌, [], ℕ, Err, IfOk, Some, slice_get};
 ghost use Rattle.hcc_cache.specs.Objects.{KnowsObjects};
 ghost use Rattle.hcc_cache.specs.ObjectsClosed.{places_in};
 
 use hcc_cache::{
-    ClosingRoom, Handle, Key, Object, ObjectCache, ObjectClient, ObjectCloseError, ObjectConfig,
-    ObjectError, ObjectsLeft, Placing, Priority, StaysOpen,
+    ClosingRoom, Handle, Key, NewError, Object, ObjectCache, ObjectClient, ObjectCloseError,
+    ObjectConfig, ObjectError, ObjectNewError, ObjectsLeft, Placing, Priority, StaysOpen,
 };
-use std::alloc::Global;
+use std::alloc::{AllocError, Global};
 use std::process::Abort;
 
 /// A cache of one shard and one client, whose list takes four entries.
@@ -36,17 +36,23 @@ fn object(number: u16) -> Object {
 }
 
 /// A new cache, its client, and what its closing needs.
-fn begins(rt: &impl Abort, alloc: Global) -> (ObjectCache, ObjectClient, ClosingRoom)
-    ensures known { KnowsObjects result.0 result.1 }
-    ensures room { result.0.cache.geometry.clients ≤ places_in result.2 }
+fn begins(
+    rt: &impl Abort,
+    alloc: Global,
+) -> Result<(ObjectCache, ObjectClient, ClosingRoom), AllocError>
+    ensures known { IfOk result (λ made. KnowsObjects made.0 made.1) }
+    ensures room { IfOk result (λ made. made.0.cache.geometry.clients ≤ places_in made.2) }
 {
-    let Ok((cache, mut clients, room)) = ObjectCache::new(alloc, SMALL) else {
-        panic!(rt; "no cache is made")
-    };
-    let Some(me) = clients.pop() else {
-        panic!(rt; "there is no client")
-    };
-    (cache, me, room)
+    match ObjectCache::new(alloc, SMALL) {
+        Ok((cache, mut clients, room)) => {
+            let Some(me) = clients.pop() else {
+                panic!(rt; "there is no client")
+            };
+            Ok((cache, me, room))
+        }
+        Err(ObjectNewError::Bad(NewError::OutOfMemory)) => Err(AllocError),
+        Err(_) => panic!(rt; "no cache is made"),
+    }
 }
 
 /// The newest object on the client's list.
@@ -89,8 +95,8 @@ pub fn objects_cross(cache: &ObjectCache, client: &ObjectClient, room: &ClosingR
 
 /// An entry that was erased while it was held comes back with its last handle, and no earlier.
 #[test]
-fn an_object_comes_back_with_its_last_handle(rt: HostRuntime) {
-    let (cache, mut me, _room) = begins(&rt, rt.alloc());
+fn an_object_comes_back_with_its_last_handle(rt: HostRuntime) -> Result<(), AllocError> {
+    let (cache, mut me, _room) = begins(&rt, rt.alloc())?;
     let placed = cache.insert(&mut me, key(1), object(9), 10, Priority::Low);
     assert_eq!(rt; placed, Ok(Placing::Placed));
     let Ok(Some((handle, found))) = cache.lookup(&mut me, key(1)) else {
@@ -105,13 +111,14 @@ fn an_object_comes_back_with_its_last_handle(rt: HostRuntime) {
     );
     assert_eq!(rt; taken(&cache, &mut me), Some((key(1), object(9))));
     assert_eq!(rt; taken(&cache, &mut me), None);
+    Ok(())
 }
 
 /// Where the list is full an insertion makes no turn of the hand, and says so; with an empty one it
 /// is placed.
 #[test]
-fn a_full_list_is_told_of(rt: HostRuntime) {
-    let (cache, mut me, _room) = begins(&rt, rt.alloc());
+fn a_full_list_is_told_of(rt: HostRuntime) -> Result<(), AllocError> {
+    let (cache, mut me, _room) = begins(&rt, rt.alloc())?;
     for number in 0u16..6 {
         let placed = cache.insert(
             &mut me,
@@ -141,13 +148,14 @@ fn a_full_list_is_told_of(rt: HostRuntime) {
     assert_eq!(rt; taken(&cache, &mut me), Some((key(0), object(0))));
     let placed = cache.insert(&mut me, key(7), object(7), 1, Priority::Bottom);
     assert_eq!(rt; placed, Ok(Placing::Placed));
+    Ok(())
 }
 
 /// A walk over the slots holds each visible entry once. One that was erased while the list was full
 /// is freed by a walk once there is room.
 #[test]
-fn a_walk_holds_each_entry(rt: HostRuntime) {
-    let (cache, mut me, _room) = begins(&rt, rt.alloc());
+fn a_walk_holds_each_entry(rt: HostRuntime) -> Result<(), AllocError> {
+    let (cache, mut me, _room) = begins(&rt, rt.alloc())?;
     for number in 0u16..5 {
         let placed = cache.insert(
             &mut me,
@@ -170,6 +178,7 @@ fn a_walk_holds_each_entry(rt: HostRuntime) {
     assert_eq!(rt; taken(&cache, &mut me), Some((key(4), object(4))));
     assert_eq!(rt; cache.pin_at(&mut me, 1, 0), Ok(None));
     assert_eq!(rt; cache.pin_at(&mut me, 0, 8), Ok(None));
+    Ok(())
 }
 
 /// The sum of the numbers of what a walk holds.
@@ -205,8 +214,8 @@ fn number_at(rt: &impl Abort, cache: &ObjectCache, client: &mut ObjectClient, sl
 /// Where no place is found an object stands alone until its last handle is released, and goes onto
 /// the list then, which has a place for it; where none is left no such insertion is begun.
 #[test]
-fn an_object_that_stands_alone_comes_back(rt: HostRuntime) {
-    let (cache, mut me, _room) = begins(&rt, rt.alloc());
+fn an_object_that_stands_alone_comes_back(rt: HostRuntime) -> Result<(), AllocError> {
+    let (cache, mut me, _room) = begins(&rt, rt.alloc())?;
     for number in 0u16..6 {
         let placed = cache.insert(
             &mut me,
@@ -246,20 +255,23 @@ fn an_object_that_stands_alone_comes_back(rt: HostRuntime) {
     }
     assert_eq!(rt; taken(&cache, &mut me), Some((key(0), object(0))));
     assert_eq!(rt; taken(&cache, &mut me), None);
+    Ok(())
 }
 
 /// The one client of a cache, by itself.
-fn alone(rt: &impl Abort, alloc: Global, cache: &ObjectCache, me: ObjectClient) -> Vec<ObjectClient>
+fn alone(
+    alloc: Global,
+    cache: &ObjectCache,
+    me: ObjectClient,
+) -> Result<Vec<ObjectClient>, AllocError>
     requires { KnowsObjects cache.now me }
-    ensures items { result.items ≡ me ∷ [] }
-    ensures known { (k : ℕ) (client : _) → slice_get result.items k ≡ Some client
-        → KnowsObjects cache.now client }
+    ensures items { IfOk result (λ clients. clients.items ≡ me ∷ []) }
+    ensures known { IfOk result (λ clients. (k : ℕ) (client : _)
+        → slice_get clients.items k ≡ Some client → KnowsObjects cache.now client) }
 {
     let mut clients = Vec::new(alloc);
-    let Ok(()) = clients.push(me) else {
-        panic!(rt; "there is no memory")
-    };
-    clients
+    clients.push(me)?;
+    Ok(clients)
 }
 
 /// Why a cache isn't closed, and what is handed back.
@@ -284,13 +296,13 @@ fn stays_open(
     cache: ObjectCache,
     me: ObjectClient,
     room: ClosingRoom,
-) -> (ObjectCloseError, ObjectCache, ObjectClient, ClosingRoom)
+) -> Result<(ObjectCloseError, ObjectCache, ObjectClient, ClosingRoom), AllocError>
     requires known { KnowsObjects cache me }
     requires room { cache.cache.geometry.clients ≤ places_in room }
-    ensures known { KnowsObjects result.1 result.2 }
-    ensures room { result.1.cache.geometry.clients ≤ places_in result.3 }
+    ensures known { IfOk result (λ made. KnowsObjects made.1 made.2) }
+    ensures room { IfOk result (λ made. made.1.cache.geometry.clients ≤ places_in made.3) }
 {
-    let clients = alone(rt, alloc, &cache, me);
+    let clients = alone(alloc, &cache, me)?;
     let open = refused(rt, cache.close(clients, room));
     let StaysOpen {
         why,
@@ -301,14 +313,14 @@ fn stays_open(
     let Some(me) = clients.pop() else {
         panic!(rt; "there is no client")
     };
-    (why, cache, me, room)
+    Ok((why, cache, me, room))
 }
 
 /// A cache is closed once nothing is held and nothing is on a list; its walk hands out the rest.
 #[test]
-fn what_is_left_is_handed_out(rt: HostRuntime) {
+fn what_is_left_is_handed_out(rt: HostRuntime) -> Result<(), AllocError> {
     let alloc = rt.alloc();
-    let (cache, mut me, room) = begins(&rt, alloc);
+    let (cache, mut me, room) = begins(&rt, alloc)?;
     for number in 0u16..3 {
         let placed = cache.insert(
             &mut me,
@@ -323,19 +335,19 @@ fn what_is_left_is_handed_out(rt: HostRuntime) {
     let open = refused(&rt, cache.close(Vec::new(alloc), room));
     assert_eq!(rt; open.why, ObjectCloseError::Missing { have: 0, want: 1 });
     let StaysOpen { cache, room, .. } = open;
-    let (why, cache, mut me, room) = stays_open(&rt, alloc, cache, me, room);
+    let (why, cache, mut me, room) = stays_open(&rt, alloc, cache, me, room)?;
     assert_eq!(rt; why, ObjectCloseError::Untaken { client: 0 });
     let Ok(Some((handle, _))) = cache.lookup(&mut me, key(2)) else {
         panic!(rt; "the object isn't found")
     };
-    let (why, cache, mut me, room) = stays_open(&rt, alloc, cache, me, room);
+    let (why, cache, mut me, room) = stays_open(&rt, alloc, cache, me, room)?;
     assert_eq!(rt; why, ObjectCloseError::HandlesOut { client: 0 });
     assert!(rt;
         !gives_back(&rt, &cache, &mut me, handle),
         "the entry is gone"
     );
     assert_eq!(rt; taken(&cache, &mut me), Some((key(1), object(1))));
-    let clients = alone(&rt, alloc, &cache, me);
+    let clients = alone(alloc, &cache, me)?;
     let mut left = match cache.close(clients, room) {
         Ok(left) => left,
         Err(_) => panic!(rt; "it isn't closed"),
@@ -351,4 +363,5 @@ fn what_is_left_is_handed_out(rt: HostRuntime) {
         Ok(()) => {}
         Err(left) => stuck(&rt, left),
     }
+    Ok(())
 }
