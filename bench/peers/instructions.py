@@ -6,8 +6,9 @@ import re
 import subprocess
 import sys
 
-CASES = "hits-uniform", "get", "misses", "mix", "evict", "pinned"
+CASES = "hits-uniform", "touch", "get", "misses", "mix", "evict", "pinned"
 CACHES = "ferretgold", "twin", "rocksdb-hyperclock", "rocksdb-lru"
+OF_OBJECTS = "touch"  # what a cache of objects and the twin with a word as value play
 FEW, MANY = 2_000, 10_000
 
 
@@ -29,6 +30,8 @@ def main():
         for value_size in (16, 256, 4096):
             row = ""
             for cache in CACHES:
+                if case == OF_OBJECTS and not cache.startswith("rocksdb"):
+                    cache += "-objects"
                 few, many = (counted(program, cache, case, value_size, it) for it in (FEW, MANY))
                 row += f"{(many - few) / (MANY - FEW):12.0f}"
             print(f"{case:13}{value_size:6}{row}", flush=True)

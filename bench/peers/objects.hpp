@@ -8,12 +8,6 @@
 
 namespace peers {
 
-inline std::uint8_t *new_block(const std::uint8_t *value, std::uint32_t size) {
-    std::uint8_t *block = new std::uint8_t[size];
-    std::memcpy(block, value, size);
-    return block;
-}
-
 inline std::uint8_t *block_at(std::uint64_t address) {
     return reinterpret_cast<std::uint8_t *>(static_cast<std::uintptr_t>(address));
 }
@@ -99,7 +93,8 @@ class ferret_objects {
         }
 
       private:
-        bool look(const ferretgold_key &key, std::uint8_t *buffer, std::uint32_t bytes) {
+        [[gnu::always_inline]] bool look(const ferretgold_key &key, std::uint8_t *buffer,
+                                         std::uint32_t bytes) {
             ferretgold_handle found;
             ferretgold_object_value object;
             if (ferretgold_raw_object_lookup(client_, &key, &found, &object) != FERRETGOLD_OK) {
@@ -162,7 +157,8 @@ class twin_objects : public twin {
         }
 
       private:
-        bool look(const ferretgold_key &key, std::uint8_t *buffer, std::uint32_t bytes) {
+        [[gnu::always_inline]] bool look(const ferretgold_key &key, std::uint8_t *buffer,
+                                         std::uint32_t bytes) {
             std::uint64_t address = 0;
             std::uint64_t found = twin_lookup_word(cache_, client_, key.w0, key.w1, &address);
             if (found == none) {

@@ -24,11 +24,14 @@ builds() {
     "$@" -g -Wall -Wextra -Wpedantic -Werror -Iinclude -pthread -o "$folder/built"
 }
 
-# Plays traces of calls through a header, with what the library allocates counted: plays LIBRARY
-# WORD..
+# The same, with what the library allocates counted: builds_counting LIBRARY WORD..
+builds_counting() {
+    cc -std=c11 -c tests/c/heap.c -o "$folder/heap.o" && builds "${@:2}" "$folder/heap.o" "$1" "$wrap"
+}
+
+# Plays traces of calls through a header: plays LIBRARY WORD..
 plays() {
-    cc -std=c11 -c tests/c/heap.c -o "$folder/heap.o" \
-        && builds "${@:2}" "$folder/heap.o" "$1" "$wrap" && "$folder/built" tests/program/calls tests/c/calls
+    builds_counting "$@" && "$folder/built" tests/program/calls tests/c/calls
 }
 
 # Has threads borrow clients: lends CLIENTS TIMES LIBRARY WORD..
@@ -41,11 +44,9 @@ reads() {
     builds cc -std=c11 "${@:3}" tests/c/readers.c "$2" && "$folder/built" "$1"
 }
 
-# Has threads hand objects back, with what the library allocates counted: hands OBJECTS LIBRARY WORD..
+# Has threads hand objects back: hands OBJECTS LIBRARY WORD..
 hands() {
-    cc -std=c11 -c tests/c/heap.c -o "$folder/heap.o" \
-        && builds cc -std=c11 "${@:3}" tests/c/objects.c "$folder/heap.o" "$2" "$wrap" \
-        && "$folder/built" "$1"
+    builds_counting "$2" cc -std=c11 "${@:3}" tests/c/objects.c && "$folder/built" "$1"
 }
 
 # Builds a program and runs it: runs WORD..
