@@ -207,17 +207,18 @@ struct twin_sizes {
     bool strict, marks;
 };
 void *twin_open(const twin_sizes *sizes);
-void *twin_client(std::uint64_t number, std::uint32_t handles);
-std::uint64_t twin_lookup(const void *cache, void *client, std::uint64_t w0, std::uint64_t w1);
-std::uint64_t twin_lookup_word(const void *cache, void *client, std::uint64_t w0, std::uint64_t w1,
-                               std::uint64_t *word);
-std::uint64_t twin_read(const void *cache, const void *client, std::uint32_t handle,
+void *twin_client(std::uint32_t cache, std::uint32_t number, std::uint32_t handles);
+bool twin_lookup(const void *cache, void *client, std::uint64_t w0, std::uint64_t w1,
+                 ferretgold_handle *handle);
+bool twin_lookup_word(const void *cache, void *client, std::uint64_t w0, std::uint64_t w1,
+                      ferretgold_handle *handle, std::uint64_t *word);
+std::uint64_t twin_read(const void *cache, const void *client, const ferretgold_handle *handle,
                         std::uint8_t *buffer, std::size_t length);
-void twin_release(const void *cache, void *client, std::uint32_t handle, bool useful);
+bool twin_release(const void *cache, void *client, const ferretgold_handle *handle, bool useful);
 std::uint64_t twin_get(const void *cache, void *client, std::uint64_t w0, std::uint64_t w1,
                        std::uint8_t *buffer, std::size_t length);
-std::uint64_t twin_insert(const void *cache, void *client, std::uint64_t w0, std::uint64_t w1,
-                          const std::uint8_t *value, std::size_t length, bool keep);
+bool twin_insert(const void *cache, void *client, std::uint64_t w0, std::uint64_t w1,
+                 const std::uint8_t *value, std::size_t length, ferretgold_handle *handle);
 void twin_client_close(void *client);
 bool twin_close(void *cache);
 }
@@ -243,7 +244,7 @@ class twin {
     class reader {
       public:
         reader(twin &cache, const sizes &sizes)
-            : cache_(cache.cache_), client_(twin_client(cache.next_++, sizes.handles)),
+            : cache_(cache.cache_), client_(twin_client(1, cache.next_++, sizes.handles)),
               size_(sizes.value_size) {}
         ~reader() {
             unpin();
@@ -256,13 +257,12 @@ class twin {
               size_(from.size_), held_(std::move(from.held_)) {}
 
         bool read(const ferretgold_key &key, std::uint8_t *buffer) {
-            std::uint64_t found = twin_lookup(cache_, client_, key.w0, key.w1);
-            if (found == none) {
+            ferretgold_handle held;
+            if (!twin_lookup(cache_, client_, key.w0, key.w1, &held)) {
                 return false;
             }
-            (void)twin_read(cache_, client_, static_cast<std::uint32_t>(found), buffer, size_);
-            twin_release(cache_, client_, static_cast<std::uint32_t>(found), true);
-            return true;
+            (void)twin_read(cache_, client_, &held, buffer, size_);
+            return twin_release(cache_, client_, &held, true);
         }
 
         bool touch(const ferretgold_key &key, std::uint8_t *buffer) { return read(key, buffer); }
@@ -272,18 +272,19 @@ class twin {
         }
 
         void insert(const ferretgold_key &key, const std::uint8_t *value) {
-            (void)twin_insert(cache_, client_, key.w0, key.w1, value, size_, false);
+            (void)twin_insert(cache_, client_, key.w0, key.w1, value, size_, nullptr);
         }
 
         void pin(const ferretgold_key &key, const std::uint8_t *value) {
-            std::uint64_t held = twin_insert(cache_, client_, key.w0, key.w1, value, size_, true);
-            must(held != none, "a pinned insertion");
-            held_.push_back(static_cast<std::uint32_t>(held));
+            ferretgold_handle held;
+            must(twin_insert(cache_, client_, key.w0, key.w1, value, size_, &held),
+                 "a pinned insertion");
+            held_.push_back(held);
         }
 
         void unpin() {
-            for (std::uint32_t held : held_) {
-                twin_release(cache_, client_, held, true);
+            for (const ferretgold_handle &held : held_) {
+                twin_release(cache_, client_, &held, true);
             }
             held_.clear();
         }
@@ -293,12 +294,12 @@ class twin {
         const void *cache_;
         void *client_;
         std::uint32_t size_;
-        std::vector<std::uint32_t> held_;
+        std::vector<ferretgold_handle> held_;
     };
 
   private:
     void *cache_;
-    std::uint64_t next_ = 0;
+    std::uint32_t next_ = 0;
 };
 
 // A cache of RocksDB. Its values are bytes of their own, taken by `new` and freed by a deleter, as

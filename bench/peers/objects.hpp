@@ -159,14 +159,13 @@ class twin_objects : public twin {
       private:
         [[gnu::always_inline]] bool look(const ferretgold_key &key, std::uint8_t *buffer,
                                          std::uint32_t bytes) {
-            std::uint64_t address = 0;
-            std::uint64_t found = twin_lookup_word(cache_, client_, key.w0, key.w1, &address);
-            if (found == none) {
+            ferretgold_handle held;
+            std::uint64_t address;
+            if (!twin_lookup_word(cache_, client_, key.w0, key.w1, &held, &address)) {
                 return false;
             }
             std::memcpy(buffer, block_at(address), bytes);
-            twin_release(cache_, client_, static_cast<std::uint32_t>(found), true);
-            return true;
+            return twin_release(cache_, client_, &held, true);
         }
 
         std::uint32_t size_;

@@ -2,27 +2,45 @@
 
 use crate::shard::{Draft, Key, Pin, Refused, Shard, Stats};
 
-/// A handle stands for this.
-enum Holding {
+/// A handle, as C++ has it: one that was given back is refused, and so is another client's.
+#[repr(C)]
+#[derive(Clone, Copy)]
+pub struct Handle {
+    index: usize,
+    serial: u64,
+    client: u32,
+    cache: u32,
+}
+
+/// What a client keeps of a handle.
+struct Hold {
+    serial: u64,
+    entry: Entry,
+}
+
+/// Where the entry of a handle is.
+enum Entry {
     Pinned { shard: u32, pin: Pin },
     Standalone { shard: u32, value: Box<[u8]>, charge: u64 },
 }
 
 /// What a thread works with: its handles, serials and statistics.
 pub struct Client {
-    number: u64,
+    number: u32,
+    cache: u32,
     serial: u64,
-    free: Vec<u32>,
-    held: Box<[Option<Holding>]>,
+    free: Vec<usize>,
+    held: Box<[Option<Hold>]>,
     pub stats: Stats,
 }
 
 impl Client {
-    pub fn new(number: u64, handles: u32) -> Client {
+    pub fn new(cache: u32, number: u32, handles: u32) -> Client {
         Client {
             number,
+            cache,
             serial: 0,
-            free: (0..handles).rev().collect(),
+            free: (0..handles as usize).rev().collect(),
             held: (0..handles).map(|_| None).collect(),
             stats: Stats::default(),
         }
@@ -36,10 +54,23 @@ impl Client {
     }
 
     #[inline(always)]
-    fn keep(&mut self, holding: Holding) -> Option<u32> {
-        let handle = self.free.pop()?;
-        self.held[handle as usize] = Some(holding);
-        Some(handle)
+    fn keep(&mut self, entry: Entry) -> Option<Handle> {
+        let index = self.free.pop()?;
+        let serial = self.next_serial();
+        self.held[index] = Some(Hold { serial, entry });
+        Some(Handle { index, serial, client: self.number, cache: self.cache })
+    }
+
+    /// What it keeps of a handle that it holds.
+    #[inline(always)]
+    fn hold(&self, handle: &Handle) -> Option<&Hold> {
+        let hold = self.held.get(handle.index)?.as_ref()?;
+        (self.is_own(handle) && hold.serial == handle.serial).then_some(hold)
+    }
+
+    #[inline(always)]
+    fn is_own(&self, handle: &Handle) -> bool {
+        (handle.cache, handle.client) == (self.cache, self.number)
     }
 }
 
@@ -71,34 +102,33 @@ impl Cache {
     }
 
     #[inline(always)]
-    pub fn lookup(&self, client: &mut Client, key: Key) -> Option<u32> {
+    pub fn lookup(&self, client: &mut Client, key: Key) -> Option<Handle> {
         if client.free.is_empty() {
             return None;
         }
         let (key, shard) = self.placed(key);
         let pin = self.shard(shard).find(key, &mut client.stats)?;
-        client.next_serial();
-        client.keep(Holding::Pinned { shard, pin })
+        client.keep(Entry::Pinned { shard, pin })
     }
 
     /// The same, and the first word of the value.
     #[inline(always)]
-    pub fn lookup_word(&self, client: &mut Client, key: Key) -> Option<(u32, u64)> {
+    pub fn lookup_word(&self, client: &mut Client, key: Key) -> Option<(Handle, u64)> {
         if client.free.is_empty() {
             return None;
         }
         let (key, shard) = self.placed(key);
         let pin = self.shard(shard).find(key, &mut client.stats)?;
         let word = self.shard(shard).first_word(pin.slot);
-        client.next_serial();
-        Some((client.keep(Holding::Pinned { shard, pin })?, word))
+        client.stats.hits += 1;
+        Some((client.keep(Entry::Pinned { shard, pin })?, word))
     }
 
     #[inline(always)]
-    pub fn read(&self, client: &Client, handle: u32, buffer: &mut [u8]) -> Option<usize> {
-        match client.held.get(handle as usize)?.as_ref()? {
-            Holding::Pinned { shard, pin } => Some(self.shard(*shard).read(pin.slot, buffer)),
-            Holding::Standalone { value, .. } => {
+    pub fn read(&self, client: &Client, handle: &Handle, buffer: &mut [u8]) -> Option<usize> {
+        match &client.hold(handle)?.entry {
+            Entry::Pinned { shard, pin } => Some(self.shard(*shard).read(pin.slot, buffer)),
+            Entry::Standalone { value, .. } => {
                 if let Some(bytes) = buffer.get_mut(..value.len()) {
                     bytes.copy_from_slice(value);
                 }
@@ -108,17 +138,24 @@ impl Cache {
     }
 
     #[inline(always)]
-    pub fn release(&self, client: &mut Client, handle: u32, useful: bool) {
-        let Some(holding) = client.held.get_mut(handle as usize).and_then(Option::take) else {
-            return;
+    pub fn release(&self, client: &mut Client, handle: &Handle, useful: bool) -> bool {
+        if !client.is_own(handle) {
+            return false;
+        }
+        let Some(place) = client.held.get_mut(handle.index) else {
+            return false;
         };
-        client.free.push(handle);
-        match holding {
-            Holding::Pinned { shard, pin } => {
+        let Some(hold) = place.take_if(|it| it.serial == handle.serial) else {
+            return false;
+        };
+        client.free.push(handle.index);
+        match hold.entry {
+            Entry::Pinned { shard, pin } => {
                 self.shard(shard).release(pin, useful, &mut client.stats);
             }
-            Holding::Standalone { shard, charge, .. } => self.shard(shard).fall(charge),
+            Entry::Standalone { shard, charge, .. } => self.shard(shard).fall(charge),
         }
+        true
     }
 
     /// Copies the value of a key: how many bytes it has. It writes nothing where it can; else it looks
@@ -138,13 +175,13 @@ impl Cache {
 
     /// Inserts an entry: a handle of it, where one is asked for.
     #[inline(always)]
-    pub fn insert(&self, client: &mut Client, key: Key, value: &[u8], charge: u32, keep: bool) -> Option<u32> {
+    pub fn insert(&self, client: &mut Client, key: Key, value: &[u8], charge: u32, keep: bool) -> Option<Handle> {
         if keep && client.free.is_empty() {
             return None;
         }
         let (key, number) = self.placed(key);
         let shard = self.shard(number);
-        let stamp = (client.number << 54) | client.next_serial();
+        let stamp = ((client.number as u64) << 54) | client.next_serial();
         let draft = Draft { key, value, charge, countdown: 2, stamp, keep };
         let placed = match shard.reserve(charge as u64, &mut client.stats) {
             Err(Refused::Strict) => return None,
@@ -160,12 +197,12 @@ impl Cache {
         match placed {
             Some(slot) if keep => {
                 let pin = Pin { slot, counting: true };
-                client.keep(Holding::Pinned { shard: number, pin })
+                client.keep(Entry::Pinned { shard: number, pin })
             }
             None if keep => {
                 let charge = charge as u64;
                 shard.stand(charge);
-                client.keep(Holding::Standalone { shard: number, value: value.into(), charge })
+                client.keep(Entry::Standalone { shard: number, value: value.into(), charge })
             }
             _ => None,
         }

@@ -13,7 +13,7 @@ mod stress;
 mod word;
 mod words;
 
-use cache::{Cache, Client};
+use cache::{Cache, Client, Handle};
 use shard::{Key, Shard};
 use std::slice::{from_raw_parts, from_raw_parts_mut};
 
@@ -30,7 +30,7 @@ pub struct Sizes {
     marks: bool,
 }
 
-/// No handle, and no value.
+/// No value.
 const NONE: u64 = u64::MAX;
 
 #[no_mangle]
@@ -42,38 +42,46 @@ pub extern "C" fn twin_open(sizes: &Sizes) -> *mut Cache {
 }
 
 #[no_mangle]
-pub extern "C" fn twin_client(number: u64, handles: u32) -> *mut Client {
-    Box::into_raw(Box::new(Client::new(number, handles)))
+pub extern "C" fn twin_client(cache: u32, number: u32, handles: u32) -> *mut Client {
+    Box::into_raw(Box::new(Client::new(cache, number, handles)))
 }
 
 #[no_mangle]
-pub extern "C" fn twin_lookup(cache: &Cache, client: &mut Client, w0: u64, w1: u64) -> u64 {
-    cache.lookup(client, Key { w0, w1 }).map_or(NONE, u64::from)
+pub extern "C" fn twin_lookup(cache: &Cache, client: &mut Client, w0: u64, w1: u64, handle: &mut Handle) -> bool {
+    cache.lookup(client, Key { w0, w1 }).map(|it| *handle = it).is_some()
 }
 
 /// The same, and the first word of the value.
 #[no_mangle]
-pub extern "C" fn twin_lookup_word(cache: &Cache, client: &mut Client, w0: u64, w1: u64, word: &mut u64) -> u64 {
-    match cache.lookup_word(client, Key { w0, w1 }) {
-        Some((handle, found)) => {
-            *word = found;
-            u64::from(handle)
-        }
-        None => NONE,
-    }
+pub extern "C" fn twin_lookup_word(
+    cache: &Cache,
+    client: &mut Client,
+    w0: u64,
+    w1: u64,
+    handle: &mut Handle,
+    word: &mut u64,
+) -> bool {
+    cache.lookup_word(client, Key { w0, w1 }).map(|it| (*handle, *word) = it).is_some()
 }
 
 /// # Safety
 /// The buffer has so many bytes.
 #[no_mangle]
-pub unsafe extern "C" fn twin_read(cache: &Cache, client: &Client, handle: u32, buffer: *mut u8, length: usize) -> u64 {
+pub unsafe extern "C" fn twin_read(
+    cache: &Cache,
+    client: &Client,
+    handle: &Handle,
+    buffer: *mut u8,
+    length: usize,
+) -> u64 {
     let buffer = from_raw_parts_mut(buffer, length);
     cache.read(client, handle, buffer).map_or(NONE, |it| it as u64)
 }
 
+/// Whether the client held the handle.
 #[no_mangle]
-pub extern "C" fn twin_release(cache: &Cache, client: &mut Client, handle: u32, useful: bool) {
-    cache.release(client, handle, useful);
+pub extern "C" fn twin_release(cache: &Cache, client: &mut Client, handle: &Handle, useful: bool) -> bool {
+    cache.release(client, handle, useful)
 }
 
 /// # Safety
@@ -91,6 +99,8 @@ pub unsafe extern "C" fn twin_get(
     cache.get(client, Key { w0, w1 }, buffer, true).map_or(NONE, |it| it as u64)
 }
 
+/// Whether there is a handle, where a place for one is given.
+///
 /// # Safety
 /// The value has so many bytes.
 #[no_mangle]
@@ -101,10 +111,14 @@ pub unsafe extern "C" fn twin_insert(
     w1: u64,
     value: *const u8,
     length: usize,
-    keep: bool,
-) -> u64 {
+    handle: Option<&mut Handle>,
+) -> bool {
     let value = from_raw_parts(value, length);
-    cache.insert(client, Key { w0, w1 }, value, 1, keep).map_or(NONE, u64::from)
+    let held = cache.insert(client, Key { w0, w1 }, value, 1, handle.is_some());
+    if let (Some(handle), Some(held)) = (handle, held) {
+        *handle = held;
+    }
+    held.is_some()
 }
 
 /// # Safety

@@ -28,6 +28,7 @@ pub struct Key {
 /// What a client counts of its calls.
 #[derive(Clone, Copy, Default)]
 pub struct Stats {
+    pub hits: u64,
     pub probes: u64,
     pub boosts: u64,
     pub evicted: u64,

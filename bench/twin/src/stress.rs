@@ -38,7 +38,7 @@ fn value_of(key: u64, mark: u64, value: &mut Vec<u8>) {
 }
 
 fn write(cache: &Cache, number: u64) {
-    let (mut client, mut value) = (Client::new(number, 1), Vec::new());
+    let (mut client, mut value) = (Client::new(1, number as u32, 1), Vec::new());
     for time in 0..TIMES {
         let (key, mark) = (time % KEYS, time * PAIRS + number);
         value_of(key, mark, &mut value);
@@ -48,7 +48,7 @@ fn write(cache: &Cache, number: u64) {
 
 /// Reads, so that the clock sees it or not: how many were hits.
 fn read(cache: &Cache, number: u64) -> u64 {
-    let (mut client, mut want) = (Client::new(PAIRS + number, 1), Vec::new());
+    let (mut client, mut want) = (Client::new(1, (PAIRS + number) as u32, 1), Vec::new());
     let (mut buffer, mut hits) = (vec![0; 8 * ROOM as usize], 0);
     for time in 0..TIMES {
         let key = (time * 5 + number) % KEYS;

@@ -18,7 +18,7 @@ use Rattle.hcc_cache.specs.declared.object_inserting.Placing.{Placing}
 use Rattle.hcc_cache.specs.declared.object_walking.HeldObject.{HeldObject}
 use Rattle.hcc_cache.specs.declared.objects.Object.{Object}
 use Rattle.hcc_cache.specs.declared.priority.Priority.{Priority}
-use Rattle.hcc_cache.specs.Calls.{CountsAt, Erases, ErasesListed, Finds, HandsAt, Misses, Reads, Releases, Rerefs, TakesAtMost, shard_in}
+use Rattle.hcc_cache.specs.Calls.{CountsAt, Erases, ErasesListed, Finds, GivesUpWith, HandsAt, Misses, Reads, Releases, Rerefs, TakesAtMost, shard_in}
 use Rattle.hcc_cache.specs.Clients.{held_by, held_of}
 use Rattle.hcc_cache.specs.Keys.{key_from}
 use Rattle.hcc_cache.specs.ObjectInserts.{FailsObject, InsertsObject, MayInsert, MayStand, PinsObject, answer_as, is_full, placed_as, refused_as}
@@ -106,12 +106,14 @@ pub record RefersAgain (c_handle : CHandle) (answer : Option (Result CHandle Loo
 
 -- The handle of these numbers is given back; none where it is that of none. What is freed is on the
 -- client's list.
-pub record GivesBack (c_handle : CHandle) (erase : Bool) (answer : Option Bool)
+pub record GivesBack (c_handle : CHandle) (useful erase : Bool) (answer : Option Bool)
     (old new : ObjectSession) : Type 0 where
   pub none : IfNone answer (IsNone old c_handle × (new ≡ old))
   pub released : IfSome answer (λ freed. (handle : Handle) × IsHandle old c_handle handle
       × Releases (below old) handle erase freed (client_in old) (client_in new)
-      × HandsBack (arc_value old.cache) handle freed old.client new.client)
+      × HandsBack (arc_value old.cache) handle freed old.client new.client
+      × GivesUpWith (below old) (has_room 1 (shelf_of old.client)) handle useful erase freed
+      (client_in old) (client_in new))
   pub rest : IfSome answer (λ _. Keeps old.counts old new)
   pub steps : Within (freeing (below old).geometry.slots + 4) old new
 

@@ -86,7 +86,7 @@ pub extern "C" fn ferretgold_raw_object_release(
     ensures there { IsThere client.old client.new }
     ensures whole { IsWhole client.new.value }
     ensures released { (answer : _)
-        × GivesBack handle.now erase_if_last answer client.old.value client.new.value
+        × GivesBack handle.now useful erase_if_last answer client.old.value client.new.value
         × (result ≡ status_of answer Refusal.NoHandle) × (freed.new ≡ value_or answer freed.old) }
 {
     let answer = client.session().release(*handle, useful, erase_if_last);

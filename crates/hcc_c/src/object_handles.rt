@@ -59,7 +59,7 @@ impl ObjectSession {
     pub fn release(&mut self, c_handle: CHandle, useful: bool, erase_if_last: bool) -> Option<bool>
         requires { IsWhole self.old }
         ensures whole { IsWhole self.new }
-        ensures released { GivesBack c_handle erase_if_last result self.old self.new }
+        ensures released { GivesBack c_handle useful erase_if_last result self.old self.new }
     {
         let handle = self.handle(c_handle)?;
         let client = &mut self.client;

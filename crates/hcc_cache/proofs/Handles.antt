@@ -1,3 +1,5 @@
+pub mod OfItsPin
+pub mod HandleTables
 pub mod SameHolds
 pub mod StandAsBefore
 pub mod OneLessOnPinned

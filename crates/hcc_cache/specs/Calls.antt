@@ -295,12 +295,18 @@ module _ {T : Type 0} (cache : Cache T) where
     pub gives : GivesBackAt there slot room used erase freed was is
 
   -- The reference of a handle on an entry of the table was given back at the entry's slot: as a use
-  -- just where the release was useful and the reference counts.
-  abbrev pub GivesUp : Handle → (useful erase freed : Bool) → (old new : Client T) → Type 0
-  GivesUp handle useful erase freed old new =
+  -- only where the release was useful and the reference counts.
+  abbrev pub GivesUpWith : (room : Bool) → Handle → (useful erase freed : Bool)
+      → (old new : Client T) → Type 0
+  GivesUpWith room handle useful erase freed old new =
       (hold : Hold) (slot : ℕ) (counting : Bool) → hold_of old handle ≡ Some hold
       → hold.kept ≡ Pinned slot counting
-      → GivesBackIn hold.shard slot true (useful && counting) erase freed old new
+      → GivesBackIn hold.shard slot room (useful && counting) erase freed old new
+
+  -- the same, where nobody keeps what is freed
+  abbrev pub GivesUp : Handle → (useful erase freed : Bool) → (old new : Client T) → Type 0
+  GivesUp handle useful erase freed old new =
+      GivesUpWith true handle useful erase freed old new
 
   -- The client read what it holds.
   pub record Reads (old new : Client T) : Type 0 where

@@ -4,6 +4,7 @@ pub mod Alones
 pub mod Keys
 pub mod Sharding
 pub mod Clients
+pub mod HandleTables
 pub mod Handles
 pub mod Known
 pub mod Opened

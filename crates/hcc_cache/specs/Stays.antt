@@ -33,12 +33,18 @@ module _ {T : Type 0} (cache : Cache T) where
       hold.shard old new
       × OnlyAt hold.shard old new
 
-  -- so was that of a handle on an entry of the table
-  abbrev pub ReleasesIn : Handle → (useful erase freed : Bool) → (old new : Client T) → Type 0
-  ReleasesIn handle useful erase freed old new =
+  -- so was that of a handle on an entry of the table, with room for one that is freed or without
+  abbrev pub ReleasesWith : (room : Bool) → Handle → (useful erase freed : Bool)
+      → (old new : Client T) → Type 0
+  ReleasesWith room handle useful erase freed old new =
       (hold : Hold) (slot : ℕ) (counting : Bool) → hold_of old handle ≡ Some hold
       → hold.kept ≡ Pinned slot counting
-      → ReleasesPin hold slot true (useful && counting) erase freed old new
+      → ReleasesPin hold slot room (useful && counting) erase freed old new
+
+  -- there is always room where nobody keeps what is freed
+  abbrev pub ReleasesIn : Handle → (useful erase freed : Bool) → (old new : Client T) → Type 0
+  ReleasesIn handle useful erase freed old new =
+      ReleasesWith true handle useful erase freed old new
 
   -- one on a standalone entry changes nothing of what is shown
   abbrev pub StaysWhereStanding : Handle → (old new : Client T) → Type 0

@@ -4,6 +4,7 @@ ghost use Rattle.hcc_cache.specs.Clients.{Holds, held_by, hold_of};
 ghost use Rattle.hcc_cache.specs.Handles.{handle_of, HoldsNone};
 
 use crate::handle::{Handle, HandleParts};
+use crate::handle_table::HandleTable;
 use crate::holding::{Alone, Hold};
 use crate::seeded::Seeded;
 use hcc_shard::ShardSeat;
@@ -24,7 +25,7 @@ pub struct Client<T> {
     /// Its seat at each shard.
     pub(crate) seats: Vec<ShardSeat<Seeded<T>>>,
     /// What it keeps of its handles, by their indices.
-    pub(crate) handles: Slab<Hold>,
+    pub(crate) handles: HandleTable,
     /// Its standalone entries.
     pub(crate) alone: Slab<Alone>,
 }

@@ -201,7 +201,7 @@ impl<T> Client<T> {
         ensures held { hold_of self.now handle ≡ Some result }
         ensures there { get self.now.handles handle.index ≡ Some result }
     {
-        self.handles[handle.index]
+        self.handles.at(handle.index)
     }
 
     /// Lets go of a handle that it holds, and returns what it kept of it.

@@ -12,6 +12,7 @@ mod errors;
 mod getting;
 mod gone;
 mod handle;
+mod handle_table;
 mod holding;
 mod image;
 mod inserting;

@@ -110,10 +110,9 @@ impl<T: Tag> Cache<T> {
         let shard = &self.shards[number];
         let serial = client.used;
         let seat = &mut client.seats[number];
-        let Some(pin) = shard.lookup(seat, seeded.in_shard, serial) else {
+        let Some((pin, word)) = shard.lookup_word(seat, seeded.in_shard, serial) else {
             return Ok(None);
         };
-        let word = shard.first_word(seat, pin);
         Ok(Some((client.keep(key, number, pinned(pin)), word)))
     }
 

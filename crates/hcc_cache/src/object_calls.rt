@@ -1,9 +1,10 @@
 //! What clients do in a cache of objects.
 ghost use Rattle.std.specs.Prelude.{◌≡◌, ◌+◌, ◌*◌, ◌<◌, ◌↔◌, ◌&&◌, true, IfNone, IfOk, IfSome, IsErrOf, OnErr};
 ghost use Rattle.hcc_cache.specs.declared.holding.Kept.TheVariants.{Standing};
-ghost use Rattle.hcc_cache.specs.Calls.{CountsAt, ErasesListed, Erases, Finds, HandsAt, Misses, Releases, Rerefs, TakesAtMost, shard_in};
+ghost use Rattle.hcc_cache.specs.Calls.{CountsAt, ErasesListed, Erases, Finds, GivesUpWith, HandsAt, Misses, Releases, Rerefs, TakesAtMost, shard_in};
 ghost use Rattle.hcc_cache.specs.Clients.{Holds, held_by, hold_of};
 ghost use Rattle.hcc_cache.specs.Objects.{HandsBack, KnowsObjects, is_word, object_bytes, shelf_of};
+ghost use Rattle.hcc_cache.specs.Stays.{ReleasesWith};
 ghost use Rattle.hcc_table.specs.Lists.{has_room};
 ghost use Rattle.hcc_table.specs.Steps.{freeing};
 
@@ -90,6 +91,10 @@ impl ObjectCache {
         ensures released { Releases self.now.cache handle erase_if_last result client.old.client
             client.new.client }
         ensures list { HandsBack self.now handle result client.old client.new }
+        ensures gives { GivesUpWith self.now.cache (has_room 1 (shelf_of client.old)) handle useful
+            erase_if_last result client.old.client client.new.client }
+        ensures by { ReleasesWith self.now.cache (has_room 1 (shelf_of client.old)) handle useful
+            erase_if_last result client.old.client client.new.client }
         ensures steps { TakesAtMost (freeing self.now.cache.geometry.slots + 4)
             client.old.client client.new.client }
     {

@@ -13,6 +13,7 @@ use crate::cache::Cache;
 use crate::client::Client;
 use crate::config::Config;
 use crate::errors::NewError;
+use crate::handle_table::HandleTable;
 use crate::seeded::Seeded;
 use hcc_rule::Tag;
 use hcc_shard::{Shard, ShardSeat};
@@ -122,7 +123,7 @@ pub(crate) fn unseated<T>(alloc: Global, config: Config) -> Result<Vec<Client<T>
             used: 0,
             left: config.serials,
             seats: Vec::with_capacity(alloc, config.shards as usize)?,
-            handles: Slab::with_capacity(alloc, config.handles as usize)?,
+            handles: HandleTable::with_capacity(alloc, config.handles as usize)?,
             alone: Slab::with_capacity(alloc, config.handles as usize)?,
         })?;
     }

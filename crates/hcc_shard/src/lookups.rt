@@ -1,11 +1,12 @@
 //! Look-ups, and one reference more on what is held.
-ghost use Rattle.std.specs.Prelude.{◌≡◌, ◌+◌, ◌<◌, ◌++◌, ◌∷◌, [], true, Some, IfSome, IfNone, length};
+ghost use Rattle.std.specs.Prelude.{◌≡◌, ◌+◌, ◌<◌, ◌++◌, ◌∷◌, [], true, Some, IfSome, IfNone, length, option_map};
 ghost use Rattle.hcc_core.specs.declared.limits.TheConstants.{MOST_HANDLES};
 ghost use Rattle.hcc_rule.specs.declared.view.Record.{Record};
 ghost use Rattle.hcc_rule.specs.Callers.{room_of, slots_of, IsSlotOf};
 ghost use Rattle.hcc_rule.specs.Addresses.{address_of_meta};
 ghost use Rattle.hcc_rule.specs.Seats.{view};
 ghost use Rattle.hcc_rule.specs.Records.{record_in};
+ghost use Rattle.hcc_rule.specs.Words.{payload_word};
 ghost use Rattle.hcc_table.specs.Efforts.{Took};
 ghost use Rattle.hcc_table.specs.Pins.{IsOf, IsPinned};
 ghost use Rattle.hcc_table.specs.Searched.{IsFound, IsMissed, Searched};
@@ -13,12 +14,12 @@ ghost use Rattle.hcc_table.specs.Steps.{MakesAtMost, MakesFor, Marks};
 ghost use Rattle.hcc_shard.specs.Callers.{AcquiresAt, SearchesAt};
 ghost use Rattle.hcc_shard.specs.Counted.{SameEvictions};
 ghost use Rattle.hcc_shard.specs.Seated.{IsNext, Rests};
-ghost use Rattle.hcc_shard.specs.Stays.{AcquiresBy};
+ghost use Rattle.hcc_shard.specs.Stays.{AcquiresBy, SeeksAt};
 
 use crate::seat::ShardSeat;
 use crate::shard::Shard;
 use hcc_rule::{Key, Tag};
-use hcc_table::{Pin, again, find};
+use hcc_table::{Pin, again, find, read_word};
 use std::alloc::Allocator;
 
 impl<T: Tag, A: Allocator> Shard<T, A> {
@@ -67,6 +68,53 @@ impl<T: Tag, A: Allocator> Shard<T, A> {
             &mut seat.effort,
         ) {
             Some(found) => Some(found.pin),
+            None => None,
+        }
+    }
+
+    /// The same, with the first eight bytes of the value, the lowest first, where it isn't empty.
+    ///
+    /// It costs a load more, of an address that is found once.
+    #[inline(always)]
+    pub fn lookup_word(
+        &self,
+        seat: &mut ShardSeat<T>,
+        key: Key,
+        serial: u64,
+    ) -> Option<(Pin, u64)>
+        requires seat { Rests self.now seat.old }
+        requires serial { IsNext serial (view seat.old.seat) }
+        requires few { length (view seat.old.seat).records < MOST_HANDLES }
+        ensures seat { Rests self.now seat.new }
+        ensures pin { IfSome result (λ got. IsSlotOf self.now.table got.0.slot
+            × (got.0.name ≡ serial)) }
+        ensures found { IfSome result (λ got. (r : Record)
+            × IsFound T.fits (room_of self.now.table) got.0.slot serial key
+            (view seat.old.seat) (view seat.new.seat) r
+            × IsOf got.0 r
+            × (0 < length r.entry.value → got.1 ≡ payload_word r.entry.value 0)) }
+        ensures missed { IfNone result (IsMissed key (view seat.old.seat) (view seat.new.seat)) }
+        ensures searches { (found : ShardSeat T)
+            × SearchesAt T.fits self.now key serial (option_map (λ got. got.0) result)
+            seat.old found × SeeksAt self.now found seat.new }
+        ensures effort { Took 1 (slots_of self.now.table) (slots_of self.now.table)
+            seat.old.effort seat.new.effort }
+        ensures counts { SameEvictions seat.old seat.new }
+        ensures steps { MakesFor 7 1 (slots_of self.now.table) seat.old.effort seat.new.effort
+            seat.old.seat seat.new.seat }
+    {
+        match find(
+            &self.table,
+            &mut seat.seat,
+            key,
+            serial,
+            self.marks,
+            &mut seat.effort,
+        ) {
+            Some(found) => {
+                let word = read_word(&self.table, &mut seat.seat, found, 0);
+                Some((found.pin, word))
+            }
             None => None,
         }
     }

@@ -1,7 +1,7 @@
 -- What holds of a client of a cache of objects after each call.
-use Rattle.std.proofs.Common.{◌≡◌, ◌⊎◌, inl, inr, ℕ, zero, suc, ◌+◌, ◌-◌, ◌<◌, ◌≤◌, Bool, true, false, List, ◌∷◌, [], ◌++◌, Some, None, length, sym, refl, ap, subst, ◌∙◌, arith}
+use Rattle.std.proofs.Common.{◌≡◌, inl, inr, ℕ, zero, suc, ◌+◌, ◌-◌, ◌<◌, ◌≤◌, List, Some, None, length, refl, ap, ◌∙◌, arith}
 use Rattle.std.proofs.lemmas.List.{length-append, length-take-le}
-use Rattle.slab.specs.Slab.{get, slab_len, Updates}
+use Rattle.slab.specs.Slab.{get, Updates}
 use Rattle.hcc_table.specs.declared.lists.Freed.{Freed}
 use Rattle.hcc_table.specs.Lists.{Puts}
 use Rattle.hcc_cache.specs.declared.holding.Alone.{Alone}

@@ -17,8 +17,8 @@ use Rattle.hcc_cache.proofs.Searches.KnownAfterLookup.{finds, finds_it, knows_mo
 use Rattle.hcc_cache.proofs.Handles.OneMore.{IsGiven}
 use Rattle.hcc_cache.proofs.cache.Cache.lookup_word.Goals as goal
 
-pub lookup-requires-clause-seat : goal.lookup-requires-clause-seat
-lookup-requires-clause-seat g c =
+pub lookup_word-requires-clause-seat : goal.lookup_word-requires-clause-seat
+lookup_word-requires-clause-seat g c =
     let cache = c.args.self.now in
     let old = c.args.client.now in
     let i = c.shard_number-number.result in
@@ -28,8 +28,8 @@ lookup-requires-clause-seat g c =
     c.index-shard.ensures c.index_mut-seat.ensures.value in
     (seated_at cache old old i shard was was at).rests
 
-pub lookup-requires-clause-serial : goal.lookup-requires-clause-serial
-lookup-requires-clause-serial g c =
+pub lookup_word-requires-clause-serial : goal.lookup_word-requires-clause-serial
+lookup_word-requires-clause-serial g c =
     let cache = c.args.self.now in
     let old = c.args.client.now in
     let i = c.shard_number-number.result in
@@ -39,8 +39,8 @@ lookup-requires-clause-serial g c =
     c.index-shard.ensures c.index_mut-seat.ensures.value in
     next_at cache old old i shard was was at c.in_ok-may_hold.ensures.free.1
 
-pub lookup-requires-clause-few : goal.lookup-requires-clause-few
-lookup-requires-clause-few g c =
+pub lookup_word-requires-clause-few : goal.lookup_word-requires-clause-few
+lookup_word-requires-clause-few g c =
     let cache = c.args.self.now in
     let old = c.args.client.now in
     let i = c.shard_number-number.result in
@@ -57,13 +57,13 @@ returns-in_default-clause-known g c =
     let i = c.shard_number-number.result in
     let shard = c.index-shard.result.now in
     let was = c.index_mut-seat.result.now in
-    let is = c.lookup.new.seat in
+    let is = c.lookup_word.new.seat in
     let at = is_at cache old i shard was c.requires.known c.shard_number-number.ensures.inside
     c.index-shard.ensures c.index_mut-seat.ensures.value in
     knows_sought cache old _ i shard was is at
     (record { seats = refl; number = refl; most = refl; seed = refl; capacities = refl })
     (record { handles = refl; alone = refl; held = refl; uses = (refl, refl) })
-    c.lookup.ensures.seat c.in_default.ensures.missed.sought
+    c.lookup_word.ensures.seat c.in_default.ensures.missed.sought
 
 pub returns-in_default-clause-missed : goal.returns-in_default-clause-missed
 returns-in_default-clause-missed g c =
@@ -72,7 +72,7 @@ returns-in_default-clause-missed g c =
     let i = c.shard_number-number.result in
     let shard = c.index-shard.result.now in
     let was = c.index_mut-seat.result.now in
-    let is = c.lookup.new.seat in
+    let is = c.lookup_word.new.seat in
     let at = is_at cache old i shard was c.requires.known c.shard_number-number.ensures.inside
     c.index-shard.ensures c.index_mut-seat.ensures.value in
     let words = c.key_to-seeded.ensures.words in
@@ -91,30 +91,18 @@ returns-in_default-clause-steps g c =
     let i = c.shard_number-number.result in
     let shard = c.index-shard.result.now in
     let was = c.index_mut-seat.result.now in
-    let is = c.lookup.new.seat in
+    let is = c.lookup_word.new.seat in
     let at = is_at cache old i shard was c.requires.known c.shard_number-number.ensures.inside
     c.index-shard.ensures c.index_mut-seat.ensures.value in
-    let few = looks_at cache old (record old { seats = with_item old.seats i is }) i shard was is at
+    let alike = at.knows.alike.plans i shard at.shard_is in
+    let slots : (geometry_of shard).slots ≡ cache.geometry.slots =
+    ap (λ (y : Geometry). y.slots) alike.0 in
+    let makes = c.lookup_word.ensures.steps in
+    let within = makes.within in
+    let steps = makes.steps in
+    takes_at cache old (record old { seats = with_item old.seats i is }) i shard was is at
     (record { seats = refl; number = refl; most = refl; seed = refl; capacities = refl })
-    was.effort is.effort c.lookup.ensures.steps in
-    omega (arith, few)
-
-pub first_word-word-requires-clause-holds : goal.first_word-word-requires-clause-holds
-first_word-word-requires-clause-holds g c =
-    let cache = c.args.self.now in
-    let old = c.args.client.now in
-    let i = c.shard_number-number.result in
-    let shard = c.index-shard.result.now in
-    let was = c.index_mut-seat.result.now in
-    let at = is_at cache old i shard was c.requires.known c.shard_number-number.ensures.inside
-    c.index-shard.ensures c.index_mut-seat.ensures.value in
-    let pin = c.in-Some.pin in
-    let told = c.in-Some.ensures.found in
-    let fresh = not_held old.used old.used (omega arith) (view_of was).records
-    (seated_at cache old old i shard was was at).records in
-    got_pinned (fits_seeded g.T.Tag.fits) (geometry_of shard).room old.used pin
-    c.key_to-seeded.result.in_shard (view_of was) (view_of c.lookup.new.seat) told.0 fresh told.1
-    c.in-Some.ensures.pin.1 told.2.2
+    (7 * cache.geometry.slots + 1) (omega arith)
 
 pub returns-clause-known : goal.returns-clause-known
 returns-clause-known g c =
@@ -124,7 +112,7 @@ returns-clause-known g c =
     let i = c.shard_number-number.result in
     let shard = c.index-shard.result.now in
     let was = c.index_mut-seat.result.now in
-    let is = c.first_word-word.new.seat in
+    let is = c.lookup_word.new.seat in
     let at = is_at cache old i shard was c.requires.known c.shard_number-number.ensures.inside
     c.index-shard.ensures c.index_mut-seat.ensures.value in
     let rest = c.keep.ensures.rest in
@@ -138,7 +126,7 @@ returns-clause-known g c =
     let words = c.key_to-seeded.ensures.words in
     let shards = length cache.shards.items in
     let told = c.in-Some.ensures.found in
-    let found = rw (← c.first_word-word.ensures.view) at told.1 in
+    let found = told.1 in
     let pin = c.in-Some.pin in
     let left : new.left ≡ old.left - 1 = ap (λ (x : Client g.row.T.Denot). x.left) rest in
     let some = c.in_ok-may_hold.ensures.free.1 in
@@ -165,7 +153,7 @@ returns-clause-known g c =
     (found.asked ∙ words)
     (rw (c.requires.known.seated.count)
     (c.shard_number-number.ensures.value ∙ ap (λ k. shard_of k shards) words))
-    found.small c.first_word-word.ensures.seat c.in_ok-may_hold.ensures.free.0
+    found.small c.lookup_word.ensures.seat c.in_ok-may_hold.ensures.free.0
 
 pub returns-clause-found : goal.returns-clause-found
 returns-clause-found g c =
@@ -175,7 +163,7 @@ returns-clause-found g c =
     let i = c.shard_number-number.result in
     let shard = c.index-shard.result.now in
     let was = c.index_mut-seat.result.now in
-    let is = c.first_word-word.new.seat in
+    let is = c.lookup_word.new.seat in
     let at = is_at cache old i shard was c.requires.known c.shard_number-number.ensures.inside
     c.index-shard.ensures c.index_mut-seat.ensures.value in
     let rest = c.keep.ensures.rest in
@@ -189,7 +177,7 @@ returns-clause-found g c =
     let words = c.key_to-seeded.ensures.words in
     let shards = length cache.shards.items in
     let told = c.in-Some.ensures.found in
-    let found = rw (← c.first_word-word.ensures.view) at told.1 in
+    let found = told.1 in
     let pin = c.in-Some.pin in
     let left : new.left ≡ old.left - 1 = ap (λ (x : Client g.row.T.Denot). x.left) rest in
     let some = c.in_ok-may_hold.ensures.free.1 in
@@ -220,14 +208,10 @@ returns-clause-found g c =
     let it = finds_it cache old new i shard was is at change c.keep.result hold pin.slot
     pin.counting told.0 given alone refl c.pinned.ensures found.searched found.records found.called
     told.2 (found.asked ∙ words) g.T.Tag.fits c.args.key here undone asked in
-    let fresh = not_held old.used old.used (omega arith) (view_of was).records
-    (seated_at cache old old i shard was was at).records in
-    let there = found_held (fits_seeded g.T.Tag.fits) (geometry_of shard).room pin.slot old.used
-    c.key_to-seeded.result.in_shard (view_of was) (view_of c.lookup.new.seat) told.0 fresh told.1 in
-    let exact = rw (c.in-Some.ensures.pin.1, there) at c.first_word-word.ensures.exact in (
+    (
       all,
       subst (λ (r : Record). 0 < length r.entry.value
-          → c.first_word-word.result ≡ payload_word r.entry.value 0) (sym it) exact
+          → c.in-Some.word ≡ payload_word r.entry.value 0) (sym it) told.3
           (c.requires.words c.args.key all.found.entry.value all.right),
     )
 
@@ -245,7 +229,7 @@ returns-clause-steps g c =
     let i = c.shard_number-number.result in
     let shard = c.index-shard.result.now in
     let was = c.index_mut-seat.result.now in
-    let is = c.first_word-word.new.seat in
+    let is = c.lookup_word.new.seat in
     let at = is_at cache old i shard was c.requires.known c.shard_number-number.ensures.inside
     c.index-shard.ensures c.index_mut-seat.ensures.value in
     let rest = c.keep.ensures.rest in
@@ -259,8 +243,7 @@ returns-clause-steps g c =
     let alike = at.knows.alike.plans i shard at.shard_is in
     let slots : (geometry_of shard).slots ≡ cache.geometry.slots =
     ap (λ (y : Geometry). y.slots) alike.0 in
-    let makes = c.lookup.ensures.steps in
+    let makes = c.lookup_word.ensures.steps in
     let within = makes.within in
     let steps = makes.steps in
-    let one = c.first_word-word.ensures.steps in
     takes_at cache old new i shard was is at change (7 * cache.geometry.slots + 1) (omega arith)
