@@ -1,5 +1,5 @@
 //! The search for a key's entry.
-ghost use Rattle.std.specs.Prelude.{◌≡◌, ◌⊎◌, ◌+◌, ◌<◌, ◌≤◌, true, false, None, IfSome, IfNone, ℕ};
+ghost use Rattle.std.specs.Prelude.{◌≡◌, ◌⊎◌, ◌+◌, ◌%◌, ◌^◌, ◌<◌, ◌≤◌, true, false, None, IfSome, IfNone, ℕ};
 ghost use Rattle.hcc_word.specs.declared.layout.TheConstants.{HIT_BIT};
 ghost use Rattle.hcc_word.specs.Word.{is_counting, is_visible, hit_of};
 ghost use Rattle.hcc_core.specs.declared.limits.TheConstants.{REFERENCES_PER_CLIENT};
@@ -100,7 +100,7 @@ pub fn find<T: Tag, A: Allocator>(
         effort.probes(1);
         return None;
     }
-    walk = walk.next();
+    walk = beyond(walk);
     for probe in 1..slots {
         let slot = walk.slot();
         let data = table.data_of(slot);
@@ -123,6 +123,18 @@ pub fn find<T: Tag, A: Allocator>(
     }
     effort.probes(slots as u64);
     None
+}
+
+/// The walk at the second probe. It is cold, so that compilers keep what the loop behind it needs out
+/// of the way of the first.
+#[cold]
+#[inline(never)]
+fn beyond(walk: Walk) -> Walk
+    ensures probe { result.probe ≡ (walk.probe + walk.stride) % 2 ^ 64 }
+    ensures stride { result.stride ≡ walk.stride }
+    ensures mask { result.mask ≡ walk.mask }
+{
+    walk.next()
 }
 
 /// A reference on the slot's entry, where the slot shows one of this key: the word that was found.

@@ -135,7 +135,7 @@ pub loop-probe-init : goal.loop-probe-init
 loop-probe-init g c =
     let table = c.args.table.now in
     let told = c.count_at.ensures in
-    let next = c.next-walk.ensures in
+    let next = c.beyond-walk.ensures in
     let start = (begins c.args.table.now.geometry.slots c.args.key
     c.args.table.now.limits.power c.begin-walk.result c.args.seat.now c.begin-walk.ensures.probe
     c.begin-walk.ensures.stride (rw (← c.geometry-slots.ensures) c.begin-walk.ensures.mask)) in (
@@ -143,7 +143,7 @@ loop-probe-init g c =
           c.slot-home.result c.begin-walk.result c.args.seat.now c.args.seat.now start
           c.slot-home.ensures c.acquire_at.new.seat c.count_at.new.seat c.acquire_at.ensures.seat
           told.seat c.in_default.ensures.missed told.view told.held told.within
-          c.next-walk.result next.probe next.stride next.mask,
+          c.beyond-walk.result next.probe next.stride next.mask,
       c.acquire_at.ensures.effort,
       (let held = c.acquire_at.ensures.steps in let one = told.step.one in omega arith),
       unmarked_then c.args.seat.now c.acquire_at.new.seat c.count_at.new.seat
@@ -175,7 +175,7 @@ pub loop-probe-preserved : goal.loop-probe-preserved
 loop-probe-preserved g c =
     let table = c.args.table.now in
     let told = c.count_at-in-loop-probe.ensures in
-    let next = c.next-walk-in-loop-probe.ensures in (
+    let next = c.next-walk.ensures in (
       goes_on table.geometry.slots c.args.key table.limits.power c.loop-probe.probe
           c.count_at-in-loop-probe.result
           c.slot-slot.result c.loop-probe.walk c.args.seat.now c.loop-probe.seat
@@ -184,7 +184,7 @@ loop-probe-preserved g c =
           c.acquire_at-in-loop-probe.ensures.seat told.seat c.in_default-acquire_at.ensures.missed
           told.view told.held
           told.within
-          c.next-walk-in-loop-probe.result next.probe next.stride next.mask,
+          c.next-walk.result next.probe next.stride next.mask,
       visited,
       (let so_far = c.loop-probe.invariant.2 in let held = c.acquire_at-in-loop-probe.ensures.steps
           in
