@@ -43,38 +43,40 @@ use Rattle.hcc_core.proofs.SumLemmas.{sum_at}
 use Rattle.hcc_core.proofs.Moves.{Moves, Turns, called, one_name, still, client_moves, slot_moves}
 use Rattle.hcc_core.proofs.Moves.{emptied, taken, given, used, hid, marked, recounted, got}
 
--- what the world after moved, where the step is made, these names may go and this entry is lost
-abbrev pub MovedBut : (ℕ → ℕ → Bool) → Option Entry → State → Outcome → Type 0
-MovedBut gone lost w (Ok done) = Moves gone lost w done.1
-MovedBut gone lost w (Err error) = Unit {0}
+-- what the world after moved, where the step is made, these names may go, this entry is lost and
+-- this slot's face may change
+abbrev pub MovedBut : (ℕ → ℕ → Bool) → Option Entry → Option ℕ → State → Outcome → Type 0
+MovedBut gone lost but w (Ok done) = Moves gone lost but w done.1
+MovedBut gone lost but w (Err error) = Unit {0}
 
 -- where nothing goes
 abbrev pub Moved : State → Outcome → Type 0
-Moved w outcome = MovedBut (λ c n. false) None w outcome
+Moved w outcome = MovedBut (λ c n. false) None None w outcome
 
 -- a reading on the way, and what it found
-chain_but : (gone : ℕ → ℕ → Bool) (lost : Option Entry) (w : State) {A : Type 0}
+chain_but : (gone : ℕ → ℕ → Bool) (lost : Option Entry) (but : Option ℕ) (w : State) {A : Type 0}
     (r : Result A CoreError) (f : A → Outcome)
-    → ((x : A) → r ≡ Ok x → MovedBut gone lost w (f x)) → MovedBut gone lost w (r >>= f)
-chain_but gone lost w (Ok x) f h = h x refl
-chain_but gone lost w (Err e) f h = tt
+    → ((x : A) → r ≡ Ok x → MovedBut gone lost but w (f x)) → MovedBut gone lost but w (r >>= f)
+chain_but gone lost but w (Ok x) f h = h x refl
+chain_but gone lost but w (Err e) f h = tt
 
 chain : (w : State) {A : Type 0} (r : Result A CoreError) (f : A → Outcome)
     → ((x : A) → r ≡ Ok x → Moved w (f x)) → Moved w (r >>= f)
-chain w r f h = chain_but (λ c n. false) None w r f h
+chain w r f h = chain_but (λ c n. false) None None w r f h
 
 -- a step of a live client that changes nothing but that client
-live_moves : {gone : ℕ → ℕ → Bool} (w : State) (client : ℕ) (found new : Client)
+live_moves : {gone : ℕ → ℕ → Bool} {but : Option ℕ} (w : State) (client : ℕ) (found new : Client)
     → live_at w client ≡ Ok found → new.stamps ≡ found.stamps
-    → Moves gone None w (record w { clients = slice_set w.clients client new })
+    → Moves gone None but w (record w { clients = slice_set w.clients client new })
 live_moves w client found new live stamps =
     client_moves w client found new (live_ok w client found live) stamps
 
 -- a step of a live client that changes a slot too
-both_move : {gone : ℕ → ℕ → Bool} {lost : Option Entry} (w : State) (slot client : ℕ)
-    (seen left : Slot) (found new : Client) → slot_at w slot ≡ Ok seen → live_at w client ≡ Ok found
-    → Turns gone lost w (Some seen) left → new.stamps ≡ found.stamps
-    → Moves gone lost w (with_both w slot left client new)
+both_move : {gone : ℕ → ℕ → Bool} {lost : Option Entry} {kept : Bool} (w : State)
+    (slot client : ℕ) (seen left : Slot) (found new : Client) → slot_at w slot ≡ Ok seen
+    → live_at w client ≡ Ok found → Turns gone lost kept w (Some seen) left
+    → new.stamps ≡ found.stamps
+    → Moves gone lost (cond kept None (Some slot)) w (with_both w slot left client new)
 both_move w slot client seen left found new at live turns stamps =
     slot_moves w slot left _ (rw (found_ok _ _ seen at) turns)
     (λ c. read_same stamps_by w.clients client c found new (live_ok w client found live) stamps)
@@ -205,30 +207,33 @@ acquire_moves w client slot weight name =
     refl)))
 
 pub give_moves : (w : State) (client name : ℕ)
-    → MovedBut (called client name) None w (give_of w client name)
+    → MovedBut (called client name) None None w (give_of w client name)
 unfolding give_of
 give_moves w client name =
-    chain_but _ _ w (live_at w client) _ (λ found live.
-    chain_but _ _ w (holding w client name) _ (λ slot held.
-    chain_but _ _ w (slot_at w slot) _ (λ seen at.
+    chain_but _ _ _ w (live_at w client) _ (λ found live.
+    chain_but _ _ _ w (holding w client name) _ (λ slot held.
+    chain_but _ _ _ w (slot_at w slot) _ (λ seen at.
     both_move w slot client seen _ found _ at live (given w client name seen) refl)))
 
 pub use_moves : (w : State) (client name : ℕ)
-    → MovedBut (called client name) None w (use_of w client name)
+    → MovedBut (called client name) None None w (use_of w client name)
 unfolding use_of
 use_moves w client name =
-    chain_but _ _ w (live_at w client) _ (λ found live.
-    chain_but _ _ w (holding w client name) _ (λ slot held.
-    chain_but _ _ w (slot_at w slot) _ (λ seen at.
-    chain_but _ _ w (ok_or (counting_in client name (references_of seen)) NotAllowed) _ (λ k there.
+    chain_but _ _ _ w (live_at w client) _ (λ found live.
+    chain_but _ _ _ w (holding w client name) _ (λ slot held.
+    chain_but _ _ _ w (slot_at w slot) _ (λ seen at.
+    chain_but _ _ _ w (ok_or (counting_in client name (references_of seen)) NotAllowed) _
+    (λ k there.
     both_move w slot client seen _ found _ at live (used w client name k seen) refl))))
 
-pub hide_moves : (w : State) (client name : ℕ) → Moved w (hide_of w client name)
+pub hide_moves : (w : State) (client name : ℕ)
+    → MovedBut (λ c n. false) None (slot_holding w.slots client name) w (hide_of w client name)
 unfolding hide_of
 hide_moves w client name =
-    chain w (live_at w client) _ (λ found live. chain w (holding w client name) _ (λ slot held.
-    chain w (slot_at w slot) _ (λ seen at.
-    both_move w slot client seen _ found _ at live (hid w seen) refl)))
+    chain_but _ _ _ w (live_at w client) _ (λ found live.
+    chain_but _ _ _ w (holding w client name) _ (λ slot held.
+    chain_but _ _ _ w (slot_at w slot) _ (λ seen at. rw (found_ok _ _ slot held)
+    (both_move w slot client seen _ found _ at live (hid w seen) refl))))
 
 pub read_moves : (w : State) (client name : ℕ) → Moved w (read_of w client name)
 unfolding read_of
@@ -244,7 +249,7 @@ unfolding clock_of
 clock_moves w client slot =
     chain w (slot_at w slot) _ (λ seen at. chain w (live_at w client) _ (λ found live.
     chain w (allow (may_clock seen)) _ (λ u may.
-    slot_moves w slot _ w.clients
+    slot_moves {kept = true} w slot _ w.clients
     (rw (found_ok _ _ seen at) (recounted w (clocked (uses_of seen)) seen)) (λ c. refl) refl)))
 
 pub mark_moves : (w : State) (client name : ℕ) → Moved w (mark_of w client name)
@@ -269,8 +274,8 @@ occupied_moves : (w : State) (client slot : ℕ) (found : Client) (seen : Slot)
     → slot_at w slot ≡ Ok seen → live_at w client ≡ Ok found
     → Moved w (occupied w client found slot seen)
 occupied_moves w client slot found (slots.Empty strays) at live =
-    both_move w slot client (slots.Empty strays) _ found _ at live (taken w _ client strays
-    (λ l c n e other h. h) (λ l h. refl)) refl
+    both_move {kept = true} w slot client (slots.Empty strays) _ found _ at live
+    (taken w _ client strays (λ l c n e other h. h) (λ k. refl) (λ l h. refl)) refl
 occupied_moves w client slot found (slots.Building other strays) at live = look_moves w client slot
 occupied_moves w client slot found (slots.Shareable r) at live = look_moves w client slot
 
@@ -287,29 +292,32 @@ write_moves w client =
     still w w.hand))
 
 pub free_moves : (w : State) (client slot : ℕ) (name : Option ℕ)
-    → MovedBut (λ c n. is_by_name c n client name) (entry_at w slot) w (free_of w client slot name)
+    → MovedBut (λ c n. is_by_name c n client name) (entry_at w slot) (Some slot) w
+    (free_of w client slot name)
 unfolding free_of
 free_moves w client slot name =
-    chain_but _ _ w (slot_at w slot) _ (λ seen at.
-    chain_but _ _ w (live_at w client) _ (λ found live.
-    chain_but _ _ w (allow (may_free client found seen name)) _ (λ u may.
-    both_move w slot client seen _ found _ at live
-    (taken w _ client 0 (λ l. freed client found seen name (may_ok _ u may))
+    chain_but _ _ _ w (slot_at w slot) _ (λ seen at.
+    chain_but _ _ _ w (live_at w client) _ (λ found live.
+    chain_but _ _ _ w (allow (may_free client found seen name)) _ (λ u may.
+    both_move {kept = false} w slot client seen _ found _ at live
+    (taken w _ client 0 (λ l. freed client found seen name (may_ok _ u may)) (λ k. cc)
     (λ l h. rw (found_ok _ _ seen at) (weighs_entry h seen))) refl)))
 
-pub empty_moves : (w : State) (client : ℕ) → Moved w (empty_of w client)
+pub empty_moves : (w : State) (client : ℕ)
+    → MovedBut (λ c n. false) None (owned_by (slice_get w.clients client)) w (empty_of w client)
 unfolding empty_of
 empty_moves w client =
-    chain w (live_at w client) _ (λ found live.
-    chain w (ok_or (freed_by found.owned) NotAllowed) _ (λ slot frees.
-    chain w (allow (has_no_member found.trail)) _ (λ u back.
-    slot_moves w slot _ _ (emptied w _ 0 (λ l c n e other.
+    chain_but _ _ _ w (live_at w client) _ (λ found live.
+    chain_but _ _ _ w (ok_or (freed_by found.owned) NotAllowed) _ (λ slot frees.
+    chain_but _ _ _ w (allow (has_no_member found.trail)) _ (λ u back.
+    rw (live_ok w client found live, frees_owned found.owned slot (found_ok _ _ slot frees))
+    (slot_moves {kept = false} w slot _ _ (emptied w _ 0 (λ l c n e other.
     owned_held client slot found l live
-    (frees_owned found.owned slot (found_ok _ _ slot frees)) c n e)
+    (frees_owned found.owned slot (found_ok _ _ slot frees)) c n e) (λ k. cc)
     (λ l. owned_stands client slot found l live
     (frees_owned found.owned slot (found_ok _ _ slot frees))))
     (λ c. read_same stamps_by w.clients client c found _ (live_ok w client found live) refl)
-    (length-set w.clients client _))))
+    (length-set w.clients client _)))))
 
 -- The events on ledgers and standalone entries.
 

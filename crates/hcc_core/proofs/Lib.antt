@@ -20,5 +20,6 @@ pub mod Moves
 pub mod EventMoves
 pub mod Shows
 pub mod EveryRun
+pub mod StaysShown
 pub mod Insertions
 pub mod SpareUses

@@ -22,7 +22,7 @@ use Rattle.hcc_core.specs.Entries.{slot_hidden}
 use Rattle.hcc_core.specs.Lawful.{Lawful, stamps_by}
 use Rattle.hcc_core.specs.Runs.{entry_held, held_at, named_on, named_in, entry_of, entry_at}
 use Rattle.hcc_core.specs.Runs.{slot_weighs, slots_weigh}
-use Rattle.hcc_core.proofs.ListLemmas.{read_same, read_at_set}
+use Rattle.hcc_core.proofs.ListLemmas.{read_same, read_at_set, read_other}
 use Rattle.hcc_core.proofs.SumLemmas.{sum_at, total-set-at, total-set-le, total-append}
 use Rattle.hcc_core.proofs.DroppedLemmas.{dropped-le}
 use Rattle.hcc_core.proofs.HeldNames.{Unheld, named_free, any_counts, counts_any, unheld_none}
@@ -41,12 +41,27 @@ StaysHeld gone w w' =
     Lawful w → (client name slot : ℕ) (entry : Entry) → gone client name ≡ false
     → held_at w client name slot ≡ Some entry → held_at w' client name slot ≡ Some entry
 
--- a step that shows nothing, and loses this entry at most
-pub record Moves (gone : ℕ → ℕ → Bool) (lost : Option Entry) (w w' : State) : Type 0 where
+-- what of a slot anyone sees: its entry, and whether it is shown
+abbrev pub face_of : Slot → Option (Entry × Bool)
+face_of (slots.Empty strays) = None
+face_of (slots.Building client strays) = None
+face_of (slots.Shareable r) = Some (r.entry, r.shown)
+
+abbrev pub face_at : State → ℕ → Option (Entry × Bool)
+face_at w slot = option_and_then face_of (slice_get w.slots slot)
+
+-- each slot but this one has the face that it had
+abbrev pub KeepsFaces : Option ℕ → (w w' : State) → Type 0
+KeepsFaces but w w' = (slot : ℕ) → ¬ (but ≡ Some slot) → face_at w' slot ≡ face_at w slot
+
+-- a step that shows nothing, loses this entry at most and changes at most this slot's face
+pub record Moves (gone : ℕ → ℕ → Bool) (lost : Option Entry) (but : Option ℕ) (w w' : State)
+    : Type 0 where
   pub holds : Holds w w'
   pub stands : StaysHeld gone w w'
   pub entries : (slot : ℕ) (entry : Entry) → entry_at w' slot ≡ Some entry
       → entry_at w slot ≡ Some entry
+  pub faces : KeepsFaces but w w'
   pub counts : (c : ℕ) → stamps_by (slice_get w'.clients c) ≡ stamps_by (slice_get w.clients c)
   pub weighs : Lawful w → (h : Entry → ℕ) → slots_weigh h w' + sum_at h lost ≡ slots_weigh h w
   pub many : length w'.clients ≡ length w.clients
@@ -64,25 +79,27 @@ holds_still w w' same = record {
 }
 
 -- no step, or a turn of the hand
-pub still : {gone : ℕ → ℕ → Bool} (w : State) (hand : ℕ)
-    → Moves gone None w (record w { hand = hand })
+pub still : {gone : ℕ → ℕ → Bool} {but : Option ℕ} (w : State) (hand : ℕ)
+    → Moves gone None but w (record w { hand = hand })
 still w hand = record {
   holds = holds_still w _ refl;
   stands = λ l c n s e other h. h;
   entries = λ s e h. h;
+  faces = λ s other. refl;
   counts = λ c. refl;
   weighs = λ l h. omega arith;
   many = refl;
 }
 
 -- a change of one client
-pub client_moves : {gone : ℕ → ℕ → Bool} (w : State) (client : ℕ) (old new : Client)
-    → slice_get w.clients client ≡ Some old → new.stamps ≡ old.stamps
-    → Moves gone None w (with_client w client new)
+pub client_moves : {gone : ℕ → ℕ → Bool} {but : Option ℕ} (w : State) (client : ℕ)
+    (old new : Client) → slice_get w.clients client ≡ Some old → new.stamps ≡ old.stamps
+    → Moves gone None but w (with_client w client new)
 client_moves w client old new at_client stamps = record {
   holds = holds_still w _ refl;
   stands = λ l c n s e other h. h;
   entries = λ s e h. h;
+  faces = λ s other. refl;
   counts = λ c. read_same stamps_by w.clients client c old new at_client stamps;
   weighs = λ l h. omega arith;
   many = length-set w.clients client new;
@@ -149,24 +166,41 @@ holds_slot w slot left clients keeps = record {
   ];
 }
 
--- and it has no other entry, nor lost any but this one
-pub record Turns (gone : ℕ → ℕ → Bool) (lost : Option Entry) (w : State) (seen : Option Slot)
-    (left : Slot) : Type 0 where
+-- a reading of a list is the same after a write that reads as what was there, or in another place
+read_alike : {X A : Type 0} (f : X → Option A) (xs : List X) (i j : ℕ) (new : X) (kept : Bool)
+    → (kept ≡ true → f new ≡ option_and_then f (slice_get xs i))
+    → ¬ (cond kept None (Some i) ≡ Some j)
+    → option_and_then f (slice_get (slice_set xs i new) j) ≡ option_and_then f (slice_get xs j)
+read_alike f xs i j new false same other =
+    ap (option_and_then f) (read_other xs i j new (λ e. other (ap Some (sym e))))
+read_alike f [] i j new true same other = refl
+read_alike f (x ∷ xs) zero zero new true same other = same refl
+read_alike f (x ∷ xs) zero (suc j) new true same other = refl
+read_alike f (x ∷ xs) (suc i) zero new true same other = refl
+read_alike f (x ∷ xs) (suc i) (suc j) new true same other =
+    read_alike f xs i j new true same (λ e. cc)
+
+-- and it has no other entry, nor lost any but this one, and may have kept its face
+pub record Turns (gone : ℕ → ℕ → Bool) (lost : Option Entry) (kept : Bool) (w : State)
+    (seen : Option Slot) (left : Slot) : Type 0 where
   pub keeps : KeepsHeld w seen left
   pub stands : Lawful w → (client name : ℕ) (entry : Entry) → gone client name ≡ false
       → option_and_then (entry_held client name) seen ≡ Some entry
       → entry_held client name left ≡ Some entry
   pub entry : (e : Entry) → entry_of left ≡ Some e → option_and_then entry_of seen ≡ Some e
+  pub face : kept ≡ true → face_of left ≡ option_and_then face_of seen
   pub weighs : Lawful w → (h : Entry → ℕ)
       → slot_weighs h left + sum_at h lost ≡ sum_at (slot_weighs h) seen
 
 -- a change of one slot, beside which no count of stamps changes
-pub slot_moves : {gone : ℕ → ℕ → Bool} {lost : Option Entry} (w : State) (slot : ℕ) (left : Slot)
-    (clients : List Client) → Turns gone lost w (slice_get w.slots slot) left
+pub slot_moves : {gone : ℕ → ℕ → Bool} {lost : Option Entry} {kept : Bool} (w : State) (slot : ℕ)
+    (left : Slot) (clients : List Client)
+    → Turns gone lost kept w (slice_get w.slots slot) left
     → ((c : ℕ) → stamps_by (slice_get clients c) ≡ stamps_by (slice_get w.clients c))
     → length clients ≡ length w.clients
-    → Moves gone lost w (record w { slots = slice_set w.slots slot left; clients = clients })
-slot_moves {lost = lost} w slot left clients turns counts many = record {
+    → Moves gone lost (cond kept None (Some slot)) w
+    (record w { slots = slice_set w.slots slot left; clients = clients })
+slot_moves {lost = lost} {kept = kept} w slot left clients turns counts many = record {
   holds = holds_slot w slot left clients turns.keeps;
   stands = λ l c n t e other h.
       read_kept (entry_held c n) w.slots slot t left e (turns.stands l c n e other) h;
@@ -174,6 +208,7 @@ slot_moves {lost = lost} w slot left clients turns counts many = record {
     | inl e ↦ ap (entry_at w) e.0 ∙ turns.entry entry e.1
     | inr e ↦ e
   ];
+  faces = λ t other. read_alike face_of w.slots slot t left kept turns.face other;
   counts = counts;
   weighs = λ l h.
       let change = total-set-at (slot_weighs h) w.slots slot left (sum_at h lost)
@@ -185,49 +220,56 @@ slot_moves {lost = lost} w slot left clients turns counts many = record {
 -- What becomes of the slot.
 
 -- a slot without an entry holds nothing
-pub emptied : {gone : ℕ → ℕ → Bool} {lost : Option Entry} (w : State) (seen : Option Slot)
-    (strays : ℕ)
+pub emptied : {gone : ℕ → ℕ → Bool} {lost : Option Entry} {kept : Bool} (w : State)
+    (seen : Option Slot) (strays : ℕ)
     → (Lawful w → (c n : ℕ) (e : Entry) → gone c n ≡ false
     → option_and_then (entry_held c n) seen ≡ Some e → None ≡ Some e)
+    → (kept ≡ true → None ≡ option_and_then face_of seen)
     → (Lawful w → (h : Entry → ℕ) → sum_at h lost ≡ sum_at (slot_weighs h) seen)
-    → Turns gone lost w seen (slots.Empty strays)
-emptied w seen strays none goes = record {
+    → Turns gone lost kept w seen (slots.Empty strays)
+emptied w seen strays none bare goes = record {
   keeps = record { held = λ c n e h. cc; times = λ c n. inl (omega arith) };
   stands = none;
   entry = λ e h. cc;
+  face = bare;
   weighs = λ l h. let less = goes l h in omega arith;
 }
 
-pub taken : {gone : ℕ → ℕ → Bool} {lost : Option Entry} (w : State) (seen : Option Slot)
-    (client strays : ℕ)
+pub taken : {gone : ℕ → ℕ → Bool} {lost : Option Entry} {kept : Bool} (w : State)
+    (seen : Option Slot) (client strays : ℕ)
     → (Lawful w → (c n : ℕ) (e : Entry) → gone c n ≡ false
     → option_and_then (entry_held c n) seen ≡ Some e → None ≡ Some e)
+    → (kept ≡ true → None ≡ option_and_then face_of seen)
     → (Lawful w → (h : Entry → ℕ) → sum_at h lost ≡ sum_at (slot_weighs h) seen)
-    → Turns gone lost w seen (slots.Building client strays)
-taken w seen client strays none goes = record {
+    → Turns gone lost kept w seen (slots.Building client strays)
+taken w seen client strays none bare goes = record {
   keeps = record { held = λ c n e h. cc; times = λ c n. inl (omega arith) };
   stands = none;
   entry = λ e h. cc;
+  face = bare;
   weighs = λ l h. let less = goes l h in omega arith;
 }
 
 -- a slot that is left as it was
-same : {gone : ℕ → ℕ → Bool} (w : State) (seen : Slot) → Turns gone None w (Some seen) seen
+same : {gone : ℕ → ℕ → Bool} {kept : Bool} (w : State) (seen : Slot)
+    → Turns gone None kept w (Some seen) seen
 same w seen = record {
   keeps = record { held = λ c n e h. inl h; times = λ c n. inl (omega arith) };
   stands = λ l c n e other h. h;
   entry = λ e h. h;
+  face = λ k. refl;
   weighs = λ l h. omega arith;
 }
 
 -- the entry stays, and each reference was there or is new to the world
-stays : {gone : ℕ → ℕ → Bool} (w : State) (r left : Resident) → left.entry ≡ r.entry
+stays : {gone : ℕ → ℕ → Bool} {kept : Bool} (w : State) (r left : Resident)
+    → left.entry ≡ r.entry → (kept ≡ true → left.shown ≡ r.shown)
     → ((c n : ℕ)
     → FewOrNew w c n (named_on c n (slots.Shareable left)) (named_on c n (slots.Shareable r)))
     → ((c n : ℕ) → gone c n ≡ false → list_any (is_named c n) r.references ≡ true
     → list_any (is_named c n) left.references ≡ true)
-    → Turns gone None w (Some (slots.Shareable r)) (slots.Shareable left)
-stays {gone = gone} w r left same times names = record {
+    → Turns gone None kept w (Some (slots.Shareable r)) (slots.Shareable left)
+stays {gone = gone} w r left same shown times names = record {
   keeps = record {
     held = λ c n e h. by c n e (list_any (is_named c n) left.references) refl h;
     times = times;
@@ -235,6 +277,8 @@ stays {gone = gone} w r left same times names = record {
   stands = λ l c n e other h.
       still_named c n e (list_any (is_named c n) r.references) other refl h;
   entry = λ e h. ap Some (sym same) ∙ h;
+  face = λ k.
+      ap (λ e. Some (e, left.shown)) same ∙ ap (λ b. Some (r.entry, b)) (shown k);
   weighs = λ l h. let as_much = ap h same in omega arith;
 }
   where
@@ -291,51 +335,54 @@ called client name c n = (client == c) && (name == n)
 
 -- the references that are left by one that goes
 pub given : (w : State) (client name : ℕ) (seen : Slot)
-    → Turns (called client name) None w (Some seen) (slot_given client name seen)
+    → Turns (called client name) None true w (Some seen) (slot_given client name seen)
 given w client name (slots.Empty strays) = same w _
 given w client name (slots.Building other strays) = same w _
 given w client name (slots.Shareable r) =
-    stays w r _ refl (λ c n. inl (dropped-le _ _ r.references))
+    stays w r _ refl (λ k. refl) (λ c n. inl (dropped-le _ _ r.references))
     (λ c n. left_named client name c n r.references)
 
 pub used : (w : State) (client name : ℕ) (k : Reference) (seen : Slot)
-    → Turns (called client name) None w (Some seen) (slot_used client name k seen)
+    → Turns (called client name) None true w (Some seen) (slot_used client name k seen)
 used w client name k (slots.Empty strays) = same w _
 used w client name k (slots.Building other strays) = same w _
 used w client name k (slots.Shareable r) =
-    stays w r _ refl (λ c n. inl (dropped-le _ _ r.references))
+    stays w r _ refl (λ k. refl) (λ c n. inl (dropped-le _ _ r.references))
     (λ c n. left_named client name c n r.references)
 
--- neither the entry nor its references change
+-- the entry stays, and so do its references
 pub hid : {gone : ℕ → ℕ → Bool} (w : State) (seen : Slot)
-    → Turns gone None w (Some seen) (slot_hidden seen)
+    → Turns gone None false w (Some seen) (slot_hidden seen)
 hid w (slots.Empty strays) = same w _
 hid w (slots.Building other strays) = same w _
-hid w (slots.Shareable r) = stays w r _ refl (λ c n. inl (omega arith)) (λ c n other h. h)
+hid w (slots.Shareable r) =
+    stays w r _ refl (λ k. cc) (λ c n. inl (omega arith)) (λ c n other h. h)
 
 pub marked : {gone : ℕ → ℕ → Bool} (w : State) (seen : Slot)
-    → Turns gone None w (Some seen) (slot_marked seen)
+    → Turns gone None true w (Some seen) (slot_marked seen)
 marked w (slots.Empty strays) = same w _
 marked w (slots.Building other strays) = same w _
-marked w (slots.Shareable r) = stays w r _ refl (λ c n. inl (omega arith)) (λ c n other h. h)
+marked w (slots.Shareable r) =
+    stays w r _ refl (λ k. refl) (λ c n. inl (omega arith)) (λ c n other h. h)
 
 pub recounted : {gone : ℕ → ℕ → Bool} (w : State) (uses : ℕ) (seen : Slot)
-    → Turns gone None w (Some seen) (slot_with_uses uses seen)
+    → Turns gone None true w (Some seen) (slot_with_uses uses seen)
 recounted w uses (slots.Empty strays) = same w _
 recounted w uses (slots.Building other strays) = same w _
 recounted w uses (slots.Shareable r) =
-    stays w r _ refl (λ c n. inl (omega arith)) (λ c n other h. h)
+    stays w r _ refl (λ k. refl) (λ c n. inl (omega arith)) (λ c n other h. h)
 
 -- the references of an entry that was acquired: those that were there and the new one
 pub got : {gone : ℕ → ℕ → Bool} (w : State) (client name weight : ℕ) (seen : Slot)
     → Unheld w client name
-    → Turns gone None w (Some seen) (slot_acquired seen (new_reference client name weight seen))
+    → Turns gone None true w (Some seen)
+    (slot_acquired seen (new_reference client name weight seen))
 got w client name weight (slots.Empty strays) free =
-    emptied w _ _ (λ l c n e other h. h) (λ l h. refl)
+    emptied w _ _ (λ l c n e other h. h) (λ k. refl) (λ l h. refl)
 got w client name weight (slots.Building other strays) free =
-    taken w _ _ _ (λ l c n e other h. h) (λ l h. refl)
+    taken w _ _ _ (λ l c n e other h. h) (λ k. refl) (λ l h. refl)
 got w client name weight (slots.Shareable r) free =
-    stays w r _ refl (λ c n. by c n (is_named c n k) refl)
+    stays w r _ refl (λ k. refl) (λ c n. by c n (is_named c n k) refl)
     (λ c n other h. any_before (is_named c n) r.references (k ∷ []) h)
   where
     k : Reference

@@ -21,12 +21,12 @@ use Rattle.hcc_core.specs.declared.event.CoreError.TheVariants.{NotAllowed}
 use Rattle.hcc_core.specs.declared.event.Event.{Event}
 use Rattle.hcc_core.specs.declared.event.Event.TheVariants as events
 use Rattle.hcc_core.specs.Sums.{when, total_below}
-use Rattle.hcc_core.specs.World.{State}
+use Rattle.hcc_core.specs.World.{State, slot_holding}
 use Rattle.hcc_core.specs.Outcomes.{Outcome, ◌>>=◌, is_made, allow, slot_at, live_at, with_both}
 use Rattle.hcc_core.specs.Entries.{built_by, is_fresh, may_show, first_references, resident_new}
 use Rattle.hcc_core.specs.Entries.{client_shown, show_of, free_of}
 use Rattle.hcc_core.specs.Steps.{in_range, rule_of, outcome_of}
-use Rattle.hcc_core.specs.Lawful.{Lawful, stamps_by, owner_in, owned_slot}
+use Rattle.hcc_core.specs.Lawful.{Lawful, stamps_by, owner_in, owned_by, owned_slot}
 use Rattle.hcc_core.specs.Runs.{entry_held, named_on, entry_of, entry_at, is_show, entry_given}
 use Rattle.hcc_core.specs.Runs.{takes_away, entry_freed, slot_weighs, slots_weigh}
 use Rattle.hcc_core.proofs.ListLemmas.{read_at_set, read_here, read_other}
@@ -34,7 +34,8 @@ use Rattle.hcc_core.proofs.Keeps.{found_ok, live_ok, may_ok}
 use Rattle.hcc_core.proofs.SumLemmas.{sum_at, total-set, total_below-none, total_below-one}
 use Rattle.hcc_core.proofs.HeldNames.{Unheld, unheld, named_free}
 use Rattle.hcc_core.proofs.Moves.{Holds, StaysHeld, read_kept, FewOrNew, KeepsHeld, holds_slot}
-use Rattle.hcc_core.proofs.EventMoves.{Moved, start_moves, look_moves, acquire_moves, give_moves}
+use Rattle.hcc_core.proofs.Moves.{KeepsFaces, face_of}
+use Rattle.hcc_core.proofs.EventMoves.{start_moves, look_moves, acquire_moves, give_moves}
 use Rattle.hcc_core.proofs.EventMoves.{use_moves, occupy_moves, hide_moves, free_moves, empty_moves}
 use Rattle.hcc_core.proofs.EventMoves.{write_moves, read_moves, enter_moves, charge_moves}
 use Rattle.hcc_core.proofs.EventMoves.{slots_moves, settle_moves, end_moves, clock_moves}
@@ -61,12 +62,22 @@ shown_weighs h w event = total_below (λ c. sum_at h (entry_shown c w event)) (l
 abbrev pub freed_weighs : (Entry → ℕ) → State → Event → ℕ
 freed_weighs h w event = total_below (λ c. sum_at h (entry_freed c w event)) (length w.clients)
 
+-- the slot whose face an event may change
+abbrev pub slot_changed : State → Event → Option ℕ
+slot_changed w (events.Show client key0 key1 charge countdown name value) =
+    owned_by (slice_get w.clients client)
+slot_changed w (events.Hide client name) = slot_holding w.slots client name
+slot_changed w (events.Free client slot name) = Some slot
+slot_changed w (events.Empty client) = owned_by (slice_get w.clients client)
+slot_changed w other = None
+
 -- what a step of this event moves and shows
 pub record Adds (w : State) (event : Event) (w' : State) : Type 0 where
   pub holds : Holds w w'
   pub stands : StaysHeld (λ c n. takes_away c n event) w w'
   pub entries : (slot : ℕ) (entry : Entry) → entry_at w' slot ≡ Some entry
       → (entry_at w slot ≡ Some entry) ⊎ IsNew w event entry
+  pub faces : KeepsFaces (slot_changed w event) w w'
   pub counts : (c : ℕ) → stamps_by (slice_get w'.clients c)
       ≡ stamps_by (slice_get w.clients c) + when (is_show c event) 1
   pub weighs : Lawful w → (h : Entry → ℕ)
@@ -110,11 +121,13 @@ frees_one w client slot name within = record {
 removes : (w : State) (event : Event) (outcome : Outcome) (lost : Option Entry)
     → ((c : ℕ) → is_show c event ≡ false)
     → (is_made outcome ≡ true → FreesLost w event lost)
-    → MovedBut (λ c n. takes_away c n event) lost w outcome → Added w event outcome
+    → MovedBut (λ c n. takes_away c n event) lost (slot_changed w event) w outcome
+    → Added w event outcome
 removes w event (Ok done) lost none frees m = record {
   holds = m.holds;
   stands = m.stands;
   entries = λ s e h. inl (m.entries s e h);
+  faces = m.faces;
   counts = λ c.
       let same = m.counts c in
       let no_more : when (is_show c event) 1 ≡ 0 = rw (none c) refl in
@@ -136,18 +149,20 @@ IsAside w event = (c : ℕ) → (is_show c event ≡ false) × (entry_freed c w 
 
 -- it takes away what it names at most
 ends : (w : State) (event : Event) (outcome : Outcome) → IsAside w event
-    → MovedBut (λ c n. takes_away c n event) None w outcome → Added w event outcome
+    → MovedBut (λ c n. takes_away c n event) None (slot_changed w event) w outcome
+    → Added w event outcome
 ends w event outcome aside m =
     removes w event outcome None (λ c. (aside c).0)
     (λ made. frees_none w event (λ c. (aside c).1)) m
 
 -- and may take nothing away either
 quiet : (w : State) (event : Event) (outcome : Outcome) → IsAside w event
-    → Moved w outcome → Added w event outcome
+    → MovedBut (λ c n. false) None (slot_changed w event) w outcome → Added w event outcome
 quiet w event (Ok done) aside m = ends w event (Ok done) aside (record {
   holds = m.holds;
   stands = λ l c n s e other. m.stands l c n s e refl;
   entries = m.entries;
+  faces = m.faces;
   counts = m.counts;
   weighs = m.weighs;
   many = m.many;
@@ -265,17 +280,22 @@ module _ (w : State) (client slot key0 key1 charge countdown : ℕ) (name : Opti
       ∙ rw (eq-eqb client client refl, at_client) refl
 
   shown_adds : is_fresh w.slots client name ≡ true
+      → owned_by (slice_get w.clients client) ≡ Some slot
       → (Lawful w → (c n : ℕ) (e : Entry)
       → option_and_then (entry_held c n) (slice_get w.slots slot) ≡ Some e → None ≡ Some e)
       → (Lawful w → IsBare w slot)
       → Adds w said world
-  shown_adds fresh none bare = record {
+  shown_adds fresh owns none bare = record {
     holds = holds_slot w slot _ _
         (shown_keeps w client name (slice_get w.slots slot) resident fresh refl);
     stands = λ l c n s e other.
         read_kept (entry_held c n) w.slots slot s (slots.Shareable resident) e
         (λ held. absurd (none_some e (none l c n e held)));
     entries = shown_entries;
+    faces = λ s other.
+        ap (option_and_then face_of)
+        (read_other w.slots slot s (slots.Shareable resident)
+        (λ here. other (owns ∙ ap Some (sym here))));
     counts = shown_counts;
     weighs = λ l h.
         let there = bare l in
@@ -313,6 +333,7 @@ show_adds w client key0 key1 charge countdown name value =
     shown_adds w client slot key0 key1 charge countdown name
     value found (live_ok w client found live)
     (fresh_to_show w.slots client found charge countdown name (may_ok _ u may))
+    (rw (live_ok w client found live) (builds_owned found.owned slot (found_ok _ _ slot builds)))
     (λ l. owned_held client slot found l live
     (builds_owned found.owned slot (found_ok _ _ slot builds)))
     (λ l. owned_bare w slot client _ refl (owner_there client slot found l live

@@ -10,4 +10,5 @@ pub mod Steps
 pub mod Opening
 pub mod Lawful
 pub mod Runs
+pub mod Shown
 pub mod Texts

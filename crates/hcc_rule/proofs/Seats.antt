@@ -9,5 +9,6 @@ pub mod Joins
 pub mod Newest
 pub mod Runs
 pub mod Kept
+pub mod StaysShown
 pub mod Allowed
 pub mod Behind

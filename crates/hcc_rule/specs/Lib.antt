@@ -26,6 +26,7 @@ pub mod Closing
 pub mod Ending
 pub mod Laws
 pub mod Runs
+pub mod Shown
 pub mod Said
 pub mod Work
 pub mod Callers

@@ -3,12 +3,13 @@
 //! No function here does anything when it runs: its contract is the law. `h.world` is the lawful
 //! world that the words and the views of a state show. A state is meant without the seats' logs
 //! (`unlogged`), except what its words are before the first step (`HoldsLogged`).
-ghost use Rattle.std.specs.Prelude.{◌≡◌, ◌≢◌, ℕ, ◌+◌, ◌/◌, ◌^◌, ◌<◌, ◌≤◌, true, false, List, [], ◌++◌, Some, Ok, slice_get, slice_index};
+ghost use Rattle.std.specs.Prelude.{◌≡◌, ◌≢◌, ◌⊎◌, ℕ, ◌+◌, ◌/◌, ◌^◌, ◌<◌, ◌≤◌, true, false, List, [], ◌++◌, Some, Ok, slice_get, slice_index};
 ghost use Rattle.std.specs.List.{list_any};
 ghost use Rattle.atomic_table.specs.Table.{opening};
 ghost use Rattle.hcc_word.specs.declared.layout.TheConstants.{VISIBLE};
 ghost use Rattle.hcc_word.specs.Word.{word_of};
 ghost use Rattle.hcc_core.specs.declared.client.Client.{Client};
+ghost use Rattle.hcc_core.specs.declared.slot.Entry.{Entry};
 ghost use Rattle.hcc_core.specs.declared.event.Event.{Event};
 ghost use Rattle.hcc_core.specs.declared.event.Event.TheVariants.{Start};
 ghost use Rattle.hcc_core.specs.declared.event.Reply.TheVariants as replies;
@@ -16,18 +17,21 @@ ghost use Rattle.hcc_core.specs.declared.limits.TheConstants.{SLOTS_PER_TURN};
 ghost use Rattle.hcc_core.specs.Lawful.{Lawful, real_in, taken_in};
 ghost use Rattle.hcc_core.specs.Opening.{opening_of};
 ghost use Rattle.hcc_core.specs.Runs.{CountersFit, FindsOne, KeepsPlaces, after_all, held_at, takes_away};
+ghost use Rattle.hcc_core.specs.Shown.{TellsTaken, changes_shown, may_take, shown_at};
 ghost use Rattle.hcc_core.specs.Steps.{outcome_of};
 ghost use Rattle.hcc_core.specs.Sums.{total};
-ghost use Rattle.hcc_core.specs.World.{limit_of, occupancy_of, passed_by, standing_in, times};
+ghost use Rattle.hcc_core.specs.World.{State, limit_of, occupancy_of, passed_by, standing_in, times};
 ghost use Rattle.hcc_rule.specs.declared.image.ImageEntry.{ImageEntry};
 ghost use Rattle.hcc_rule.specs.declared.key.Key.{Key};
 ghost use Rattle.hcc_rule.specs.declared.layout.TheConstants.{META, USAGE, OCCUPANCY, STANDING, HAND};
 ghost use Rattle.hcc_rule.specs.declared.rule.Plan.{Plan};
+ghost use Rattle.hcc_rule.specs.declared.table.RuleTable.{RuleTable};
 ghost use Rattle.hcc_rule.specs.declared.view.Done.{Done};
 ghost use Rattle.hcc_rule.specs.declared.view.Logged.{Logged};
 ghost use Rattle.hcc_rule.specs.declared.view.Record.{Record};
 ghost use Rattle.hcc_rule.specs.declared.view.View.{View};
-ghost use Rattle.hcc_rule.specs.Acts.{IsAllowed, IsFront, IsKnown, IsNoStepOf, IsRun, KeepsTrails, RecordsStand, events_of, world_of};
+ghost use Rattle.hcc_rule.specs.Acts.{IsAllowed, IsFront, IsKnown, IsNoStepOf, IsRun, IsStepBy, KeepsTrails, RecordsStand, client_by, events_of, past, world_of};
+ghost use Rattle.hcc_rule.specs.Callers.{plan_of, world_at};
 ghost use Rattle.hcc_rule.specs.Closing.{key_at};
 ghost use Rattle.hcc_rule.specs.Images.{entries_in};
 ghost use Rattle.hcc_rule.specs.ImageLimits.{AreRising, IsImageFor};
@@ -38,11 +42,13 @@ ghost use Rattle.hcc_rule.specs.Probes.{probe_slot};
 ghost use Rattle.hcc_rule.specs.Records.{record_in};
 ghost use Rattle.hcc_rule.specs.Rule.{hand_after, setup_of, Holds};
 ghost use Rattle.hcc_rule.specs.Runs.{AreShown};
-ghost use Rattle.hcc_rule.specs.Seats.{IsPlanned};
+ghost use Rattle.hcc_rule.specs.Seats.{IsPlanned, SeatOf};
+ghost use Rattle.hcc_rule.specs.Shown.{IsTakenAway, KnowsShownAt};
 ghost use Rattle.hcc_rule.specs.Views.{Each, is_seated};
 ghost use Rattle.hcc_rule.specs.Words.{field_at};
 
 use crate::key::Tag;
+use std::alloc::Allocator;
 
 /// The words with which a shard begins, of the entries that its plan names.
 pub fn law_opening<T: Tag>()
@@ -258,6 +264,57 @@ pub fn law_run<T: Tag>()
     // gave. The entries of the image are the first that client 0 showed.
     ensures entries { (p : Plan T) → IsPlanned p.geometry p.capacity → (events : List Event)
         → AreShown p events }
+{}
+
+/// What a slot shows stays so, with any number of clients, until an event takes it away: a hide by
+/// a reference on the slot, or a free of it.
+pub fn law_shown<T: Tag>()
+    // What a slot shows in the world after any events it shows after all that come behind them; or
+    // one of these took it away, until when it was shown. Whose events they are, and what else they
+    // do, doesn't matter.
+    ensures stays { (p : Plan T) → IsPlanned p.geometry p.capacity
+        → IsImageFor T.fits p.tag p.geometry p.capacity p.strict (entries_in p.image)
+        → (front more : List Done) (slot : ℕ) (entry : Entry)
+        → shown_at (world_of p front) slot ≡ Some entry
+        → (shown_at (world_of p (front ++ more)) slot ≡ Some entry)
+        ⊎ IsTakenAway slot entry (world_of p front) more }
+
+    // So it is between two states of a shard, by the worlds that their words show.
+    ensures states { (p : Plan T) (s t : LoggedStateOf T) (h : HoldsLogged T.fits p s)
+        (g : HoldsLogged T.fits p t) (since : List Done) → g.history ≡ h.history ++ since
+        → (slot : ℕ) (entry : Entry) → shown_at h.rule.world slot ≡ Some entry
+        → (shown_at g.rule.world slot ≡ Some entry)
+        ⊎ IsTakenAway slot entry h.rule.world since }
+
+    // That event is another client's where a client made no hide and no free.
+    ensures others { (client slot : ℕ) (entry : Entry) (world : State) (more : List Done)
+        → Each (λ (done : Done). IsStepBy client done.event → may_take done.event ≡ false) more
+        → (t : IsTakenAway slot entry world more) → client_by t.done.event ≢ client }
+
+    // In a history its reply says so: of a hide that it hid the entry, of a free what it freed. So
+    // a hide of what was hidden before took nothing away.
+    ensures replied { (p : Plan T) (front more : List Done) → IsAllowed p (front ++ more)
+        → (slot : ℕ) (entry : Entry) (t : IsTakenAway slot entry (world_of p front) more)
+        → TellsTaken t.done.event t.done.reply }
+
+    // Where no event shows, hides or frees an entry, each slot shows what it showed.
+    ensures quiet { (p : Plan T) → IsPlanned p.geometry p.capacity
+        → IsImageFor T.fits p.tag p.geometry p.capacity p.strict (entries_in p.image)
+        → (front more : List Done) → list_any changes_shown (events_of more) ≡ false
+        → (slot : ℕ) → shown_at (world_of p (front ++ more)) slot
+        ≡ shown_at (world_of p front) slot }
+{}
+
+/// What a seat knows to be shown it knows so later, at the end of any call, with any number of
+/// clients, unless an event took it away between.
+pub fn law_known_shown<T: Tag, A: Allocator>()
+    // The entries with which the shard began keep their limits: where it was new it had none.
+    ensures { (table : RuleTable T A)
+        → IsImageFor T.fits (plan_of table).tag (plan_of table).geometry (plan_of table).capacity
+        (plan_of table).strict (entries_in (plan_of table).image)
+        → (old new : SeatOf T) (more : List Done) → past new ≡ past old ++ more
+        → (slot : ℕ) (entry : Entry) → KnowsShownAt table slot entry old
+        → KnowsShownAt table slot entry new ⊎ IsTakenAway slot entry (world_at table old) more }
 {}
 
 /// The events of a shard of one client: its seat knows all of them, so the world that the words

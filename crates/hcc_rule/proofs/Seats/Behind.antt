@@ -18,7 +18,7 @@ use Rattle.hcc_rule.proofs.Seats.Allowed.{leads_allowed}
 use Rattle.hcc_rule.proofs.Seats.Fronts.{known_at}
 
 -- what is behind a front of a run is a run from the world after the front
-run_behind : (front rest : List Done) (world last : State) → IsRun world (front ++ rest) last
+pub run_behind : (front rest : List Done) (world last : State) → IsRun world (front ++ rest) last
     → IsRun (after_all world (events_of front)) rest last
 run_behind [] rest world last is = is
 run_behind (done ∷ front) rest world last is =

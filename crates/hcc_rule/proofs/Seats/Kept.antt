@@ -105,6 +105,16 @@ module _ {T : Type 0} (fits : T → Key → List ℕ → Type 0) (p : Plan T) wh
           held_is l.known.client name (slice_get h.rule.world.slots r.slot) stands.0 r.entry
           kept.there stands.1
 
+  -- the worlds that words show before and after these events
+  pub world_since : (s t : LoggedStateOf T) (h : HoldsLogged fits p s) (g : HoldsLogged fits p t)
+      (since : List Done) → g.history ≡ h.history ++ since
+      → g.rule.world ≡ after_all h.rule.world (events_of since)
+  world_since s t h g since goes_on =
+      world_is fits p t g
+      ∙ ap (λ ds. world_of p ds) goes_on
+      ∙ after_more h.history since (begun_world p)
+      ∙ ap (λ w. after_all w (events_of since)) (sym (world_is fits p s h))
+
   -- and so it does in the world of each later state, unless it took that away
   pub states_keep : (s t : LoggedStateOf T) (h : HoldsLogged fits p s) (g : HoldsLogged fits p t)
       (since : List Done) → g.history ≡ h.history ++ since → (j : ℕ) (l : Logged T)
@@ -113,16 +123,11 @@ module _ {T : Type 0} (fits : T → Key → List ℕ → Type 0) (p : Plan T) wh
       → list_any (takes_away l.known.client name) (events_of since) ≡ false
       → held_at g.rule.world l.known.client name r.slot ≡ Some r.entry
   states_keep s t h g since goes_on j l at seated name r called none =
-      subst (λ (w : State). held_at w l.known.client name r.slot ≡ Some r.entry) (sym later)
+      subst (λ (w : State). held_at w l.known.client name r.slot ≡ Some r.entry)
+      (sym (world_since s t h g since goes_on))
       (stands_all (events_of since) l.known.client name r.slot r.entry
       (law_is fits p (unlogged s) h.rule) none
       (recorded_held h j l at seated name r called))
-    where
-      later : g.rule.world ≡ after_all h.rule.world (events_of since)
-      later = world_is fits p t g
-          ∙ ap (λ ds. world_of p ds) goes_on
-          ∙ after_more h.history since (begun_world p)
-          ∙ ap (λ w. after_all w (events_of since)) (sym (world_is fits p s h))
 
   -- what stood after all that a seat knew stands after all that it knows later
   pub pasts_keep : IsPlanned p.geometry p.capacity
