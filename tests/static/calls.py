@@ -26,7 +26,7 @@ WAITS = re.compile(
 # What makes an allocator, hands one on or asks one for memory.
 ALLOCATES = re.compile(
     r"\b(?:alloc\w*|Global)\b|\b(?:Box|Arc|Rc|String)::\w+|\bVec::(?!len\b)\w+|\b(?:vec|format)!"
-    r"|\.(?:push\w*|reserve\w*|extend\w*|append|resize\w*|to_vec|to_owned|to_string|collect\w*|with_capacity)\("
+    r"|\.(?:push(?!_reserved\()\w*|reserve\w*|extend\w*|append|resize\w*|to_vec|to_owned|to_string|collect\w*|with_capacity)\("
     r"|\b(?:handles|alone|seats|shards)\.(?:insert|vacant_entry)\("
     # The protocol's machine, of which running code has types and constants only.
     r"|\b(?:Machine|World)\b"

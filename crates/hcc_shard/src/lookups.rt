@@ -76,12 +76,7 @@ impl<T: Tag, A: Allocator> Shard<T, A> {
     ///
     /// It costs a load more, of an address that is found once.
     #[inline(always)]
-    pub fn lookup_word(
-        &self,
-        seat: &mut ShardSeat<T>,
-        key: Key,
-        serial: u64,
-    ) -> Option<(Pin, u64)>
+    pub fn lookup_word(&self, seat: &mut ShardSeat<T>, key: Key, serial: u64) -> Option<(Pin, u64)>
         requires seat { Rests self.now seat.old }
         requires serial { IsNext serial (view seat.old.seat) }
         requires few { length (view seat.old.seat).records < MOST_HANDLES }

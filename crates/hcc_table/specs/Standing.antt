@@ -18,7 +18,6 @@ use Rattle.hcc_table.specs.declared.inserting.Insertion.TheVariants.{Placed, Mat
 use Rattle.hcc_table.specs.declared.pins.Pin.{Pin}
 use Rattle.hcc_table.specs.Searched.{is_key}
 use Rattle.hcc_table.specs.Seeking.{Seeks, is_seeking}
-
 pub use Rattle.hcc_core.specs.Shown.{entry_shown, shown_at}
 
 -- a world shows a key in a slot: a visible entry of the key is there

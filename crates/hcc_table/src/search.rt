@@ -125,8 +125,8 @@ pub fn find<T: Tag, A: Allocator>(
     None
 }
 
-/// The walk at the second probe. It is cold, so that compilers keep what the loop behind it needs out
-/// of the way of the first.
+/// The walk at the second probe. It is cold, so that compilers keep what the loop behind it needs
+/// out of the way of the first.
 #[cold]
 #[inline(never)]
 fn beyond(walk: Walk) -> Walk

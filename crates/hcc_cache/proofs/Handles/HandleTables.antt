@@ -39,7 +39,8 @@ module _ (places : List Hold) (index : ℕ) where
   pub found_at : (entry : Entry Hold) → slice_get (entries_of places) index ≡ Some entry
       → get_or (map value_of (entries_of places)) index None ≡ value_of entry
   found_at entry there =
-      get_or-map value_of (entries_of places) index entry None (slice_get_within _ index entry there)
+      get_or-map value_of (entries_of places) index entry None
+      (slice_get_within _ index entry there)
       ∙ ap value_of (get_or_from_slice_get (entries_of places) index entry entry there)
 
   module _ (hold : Hold) (read : hold ≡ get_or places index hold) where

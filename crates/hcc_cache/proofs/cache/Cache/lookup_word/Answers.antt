@@ -207,8 +207,7 @@ returns-clause-found g c =
     (found.asked ∙ words) g.T.Tag.fits c.args.key here undone asked in
     let it = finds_it cache old new i shard was is at change c.keep.result hold pin.slot
     pin.counting told.0 given alone refl c.pinned.ensures found.searched found.records found.called
-    told.2 (found.asked ∙ words) g.T.Tag.fits c.args.key here undone asked in
-    (
+    told.2 (found.asked ∙ words) g.T.Tag.fits c.args.key here undone asked in (
       all,
       subst (λ (r : Record). 0 < length r.entry.value
           → c.in-Some.word ≡ payload_word r.entry.value 0) (sym it) told.3

@@ -13,7 +13,8 @@ invariant_of-self c =
     let places = c.self.inside.places.items in
     let as_long = length-map places entry_of in
     let pushed = IsSound-push _ _ _ c.args.hold c.self.invariant.1 (omega arith) in
-    (c.self.invariant.0 + 1, rw (c.push_reserved.ensures.items, map_push, is_held c.args.hold c.requires.serial) pushed)
+    let held = is_held c.args.hold c.requires.serial in
+    (c.self.invariant.0 + 1, rw (c.push_reserved.ensures.items, map_push, held) pushed)
 
 pub index_mut-place-requires : goal.index_mut-place-requires
 index_mut-place-requires c =

@@ -8,17 +8,22 @@ use Rattle.hcc_cache.proofs.handle_table.HandleTable.remove.Goals as goal
 use Rattle.hcc_cache.specs.HandleTables.{entries_of}
 
 -- the place has the handle before
-occupied : (c : goal.After-self-2-1) → slice_get (entries_of c.self.inside.places.items) c.args.index
+occupied : (c : goal.After-self-2-1)
+    → slice_get (entries_of c.self.inside.places.items) c.args.index
     ≡ Some (Occupied c.index_mut-place.result.now)
 occupied c =
     let some = rw (← c.self.view_is) at c.requires in
     held_at c.self.inside.places.items c.args.index _ c.index_mut-place.ensures.value some
 
 pub invariant_of-self : goal.invariant_of-self
-invariant_of-self c = (c.self.invariant.0 - 1, rw map-set (IsSound-vacate _ _ _ _ _ c.self.invariant.1 (occupied c)))
+invariant_of-self c =
+    let vacated = IsSound-vacate _ _ _ _ _ c.self.invariant.1 (occupied c) in
+    (c.self.invariant.0 - 1, rw map-set vacated)
 
 pub returns-clause-value : goal.returns-clause-value
-returns-clause-value c = rw (← c.self.view_is) (found_at c.self.inside.places.items c.args.index _ (occupied c))
+returns-clause-value c =
+    let places = c.self.inside.places.items in
+    rw (← c.self.view_is) (found_at places c.args.index _ (occupied c))
 
 pub returns-clause-updates : goal.returns-clause-updates
 returns-clause-updates c =
