@@ -107,21 +107,9 @@ typedef struct ferretgold_object_value {
     uint16_t kind;
 } ferretgold_object_value;
 
-/* How large it is: the fields of ferretgold_config but the room, and how many entries a client's list
- * takes of what its calls free, 4 to 65536. Beside these the list has places for as many as the client
- * may hold handles. */
-typedef struct ferretgold_object_config {
-    uint32_t slots;
-    uint32_t clients;
-    uint32_t handles;
-    uint32_t gone;
-    uint32_t shards;
-    bool strict;
-    bool marks;
-    uint64_t capacity;
-    uint64_t serials;
-    uint64_t seed;
-} ferretgold_object_config;
+/* The list of a client has `gone` places for what its calls free, and as many more as the client may
+ * hold handles. */
+struct ferretgold_object_config; /* of ferretgold_object.h */
 
 /* What a walk holds at a slot: a handle on the entry there, and what its insertion gave. */
 typedef struct ferretgold_held_object {
@@ -131,22 +119,11 @@ typedef struct ferretgold_held_object {
     uint64_t charge;
 } ferretgold_held_object;
 
-/* Statuses that these return beside those of ferretgold_status. */
-enum {
-    /* What is on the client's list and its standalone entries fill the list's places. */
-    FERRETGOLD_GONE_FULL = 41,
-    /* The object's address is 2^48 or above. */
-    FERRETGOLD_TOO_HIGH = 42,
-    /* The field `gone` of the configuration is out of its range. */
-    FERRETGOLD_BAD_GONE = 43,
-    /* Objects that are to be handed back weren't all taken. */
-    FERRETGOLD_UNTAKEN = 44
-};
-
-uint32_t ferretgold_raw_object_config_check(const ferretgold_object_config *config);
+/* These return also the statuses of ferretgold_object.h. */
+uint32_t ferretgold_raw_object_config_check(const struct ferretgold_object_config *config);
 /* As ferretgold_raw_open. */
-uint32_t ferretgold_raw_object_open(const ferretgold_object_config *config, uint32_t number,
-                                    ferretgold_object *clients, size_t count,
+uint32_t ferretgold_raw_object_open(const struct ferretgold_object_config *config,
+                                    uint32_t number, ferretgold_object *clients, size_t count,
                                     ferretgold_object *cache);
 /* A closed cache of objects: first the place for what is left of one, which allocates it, then that.
  * A place takes what is left of one cache. */

@@ -8,6 +8,7 @@
 #define FERRETGOLD_INLINE extern inline /* so the functions of ferretgold_inline.h are here */
 #endif
 #include "ferretgold.h"
+#include "ferretgold_object.h"
 #include "ferretgold_raw.h"
 #include "closed.h"
 #include "large.h"
@@ -462,6 +463,17 @@ const large_setup *large_setup_at(ferretgold_client *client) {
 
 /* ---- Texts ----------------------------------------------------------------------------------- */
 
+/* Those of ferretgold_object.h. */
+static const char *object_status_text(uint32_t status) {
+    switch (status) {
+    case FERRETGOLD_GONE_FULL: return "the client's list is full";
+    case FERRETGOLD_TOO_HIGH: return "the object's address is 2^48 or above";
+    case FERRETGOLD_BAD_GONE: return "gone must be 4 to 65,536";
+    case FERRETGOLD_UNTAKEN: return "objects weren't taken off a list";
+    }
+    return "unknown";
+}
+
 const char *ferretgold_status_text(ferretgold_status status) {
     switch (status) {
     case FERRETGOLD_OK: return "ok";
@@ -492,7 +504,7 @@ const char *ferretgold_status_text(ferretgold_status status) {
     case FERRETGOLD_CLIENTS_OUT: return "clients of the cache are out";
     case FERRETGOLD_BAD_SIZE: return "the library doesn't know this size of configuration";
     }
-    return "unknown";
+    return object_status_text((uint32_t)status);
 }
 
 const char *ferretgold_version(void) {

@@ -4,6 +4,7 @@
 #define PEERS_OBJECTS_HPP
 
 #include "caches.hpp"
+#include "ferretgold_object.h"
 #include "ferretgold_raw.h"
 
 namespace peers {

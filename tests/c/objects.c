@@ -2,6 +2,7 @@
  * once, as it was inserted, and none while a handle is held on it; no call asks for memory. Opening a
  * cache refuses where any request for memory is refused, and leaves nothing behind.
  * Linked with heap.c. Usage: objects [OBJECTS]    15,000,000 at most and by default */
+#include "ferretgold_object.h"
 #include "ferretgold_raw.h"
 #include "heap.h"
 

@@ -1,0 +1,400 @@
+/* The calls of ferretgold_object.h round those of the proved library: each works through a client of
+ * the calling thread, fills the record that a handle points to, and runs deleters once it is over. It
+ * is tested, not proved. */
+#include "object.h"
+#include "limits.h"
+#include "opening.h"
+
+#include <stdlib.h>
+#include <string.h>
+
+enum {
+    SOME = 4,       /* how many handles of its queue a call gives back */
+    WAITING = 64,   /* from how many on others give them back, if they can */
+    INSERTIONS = 4, /* how often an insertion is tried whose list was full */
+    CHANGES = 64,   /* how many other clients a call tries whose client is full */
+    PRIORITIES = 3,
+    ADDRESS_BITS = 48
+};
+
+/* ---- What the checking library knows of objects ----------------------------------------------- */
+
+#ifndef FERRETGOLD_CHECK
+#define owned_begins(owned, object, kind, call) ((void)0)
+#define owned_ends(owned, object, kind) ((void)0)
+#define owned_freed(owned) ((void)0)
+#endif
+
+/* ---- A call from its beginning to its end ----------------------------------------------------- */
+
+/* Begins a call that needs a client: the thread's cell of the cache; null if no client is to be had.
+ * The first call of a thread gives a few handles back that other threads left; its deleters' calls
+ * go through the same client. */
+static inline object_cell *enter(ferretgold_object_cache *cache) {
+    object_cell *it = cell_of(cache);
+    if (it == NULL) {
+        return NULL;
+    }
+    if (it->depth == 0) {
+        if ((it->client == NULL || !own_entered(it)) && !client_found(cache, it)) {
+            return NULL;
+        }
+        if (has_returned(it->in_use)) {
+            records_given_back(it->in_use, SOME);
+        }
+    }
+    it->depth += 1;
+    return it;
+}
+
+/* Begins a call that only this client can serve, if the thread has it at hand. */
+static inline object_cell *enter_own(object_client *client) {
+    object_cell *it = cell_of(client->cache);
+    if (it == NULL) {
+        return NULL;
+    }
+    if (it->depth == 0) {
+        if (it->client != client || !own_entered(it)) {
+            return NULL;
+        }
+        if (has_returned(client)) {
+            records_given_back(client, SOME);
+        }
+    } else if (it->in_use != client) {
+        return NULL;
+    }
+    it->depth += 1;
+    return it;
+}
+
+void delete_object(ferretgold_object_cache *cache, const ferretgold_key *key,
+                   const ferretgold_object_value *value) {
+    void *object = (void *)(uintptr_t)value->address;
+    owned_ends(cache->owned, object, value->kind);
+    cache->deleter(cache->context, key, object, value->kind);
+}
+
+void run_deleters(object_client *client) {
+    ferretgold_key key = {0, 0};
+    ferretgold_object_value value = {0, 0};
+    while (ferretgold_raw_object_take_gone(&client->session, &key, &value) == FERRETGOLD_OK) {
+        delete_object(client->cache, &key, &value);
+    }
+    client->untaken = false;
+}
+
+/* Ends a call: the first of a thread runs the deleters of what was freed. */
+static inline ferretgold_status leave(object_cell *it, uint32_t status) {
+    if (it->depth == 1) {
+        if (it->in_use->untaken) {
+            run_deleters(it->in_use);
+        }
+        client_left(it);
+    }
+    it->depth -= 1;
+    return (ferretgold_status)status;
+}
+
+/* Whether a call that this status refuses is to be tried again: other threads gave back handles of its
+ * client, or it has another client now. */
+static bool may_retry(object_cell *it, uint32_t status, uint32_t *changes) {
+    object_client *client = it->in_use;
+    if ((status != FERRETGOLD_HANDLES_FULL && status != FERRETGOLD_SPENT) || it->depth > 1) {
+        return false;
+    }
+    if (status == FERRETGOLD_HANDLES_FULL && has_returned(client)) {
+        records_given_back(client, UINT32_MAX);
+        return true;
+    }
+    if (client->untaken) {
+        run_deleters(client);
+    }
+    *changes += 1;
+    return *changes <= CHANGES && client_changed(client->cache, it);
+}
+
+/* Gives back what waits on a client that is in no call. */
+static void relieve(object_cell *it, object_client *client) {
+    if (it == NULL || it->depth > 0 || !has_returned(client)) {
+        return;
+    }
+    if (client == it->client ? !own_entered(it) : !client_claimed(client)) {
+        return;
+    }
+    it->in_use = client;
+    it->depth = 1;
+    records_given_back(client, UINT32_MAX);
+    (void)leave(it, FERRETGOLD_OK);
+}
+
+/* The same of all clients. */
+static void relieve_all(ferretgold_object_cache *cache) {
+    for (uint32_t number = 0; number < cache->config.clients; number++) {
+        relieve(cell_of(cache), &cache->client[number]);
+    }
+}
+
+/* ---- Handles ---------------------------------------------------------------------------------- */
+
+/* Fills the record of a proved handle. */
+static inline const ferretgold_object_handle *shown(object_client *client,
+                                                    const ferretgold_handle *handle,
+                                                    const ferretgold_key *key,
+                                                    const ferretgold_object_value *value,
+                                                    uint64_t charge) {
+    record *it = &client->records[handle->index];
+    it->shows.object = (void *)(uintptr_t)value->address;
+    it->shows.key = *key;
+    it->shows.charge = (uint32_t)charge;
+    it->shows.kind = value->kind;
+    it->serial = handle->serial;
+    atomic_store_explicit(&it->references, 1, memory_order_relaxed);
+    return &it->shows;
+}
+
+ferretgold_status ferretgold_object_lookup(ferretgold_object_cache *cache,
+                                           const ferretgold_key *key,
+                                           const ferretgold_object_handle **handle) {
+    if (cache == NULL || key == NULL || handle == NULL) {
+        return FERRETGOLD_NULL;
+    }
+    object_cell *it = enter(cache);
+    if (it == NULL) {
+        return FERRETGOLD_MISS;
+    }
+    ferretgold_handle found;
+    ferretgold_object_value value;
+    uint32_t status, changes = 0;
+    do {
+        status = ferretgold_raw_object_lookup(&it->in_use->session, key, &found, &value);
+    } while (status > FERRETGOLD_MISS && may_retry(it, status, &changes));
+    if (status == FERRETGOLD_OK) {
+        uint64_t charge = 0;
+        (void)ferretgold_raw_object_charge(&it->in_use->session, &found, &charge);
+        *handle = shown(it->in_use, &found, key, &value, charge);
+    }
+    return leave(it, status);
+}
+
+ferretgold_status ferretgold_object_pin_at(ferretgold_object_cache *cache, uint32_t shard,
+                                           uint32_t slot,
+                                           const ferretgold_object_handle **handle) {
+    if (cache == NULL || handle == NULL) {
+        return FERRETGOLD_NULL;
+    }
+    if (shard == 0 && slot == 0) {
+        relieve_all(cache);
+    }
+    object_cell *it = enter(cache);
+    if (it == NULL) {
+        return FERRETGOLD_NO_CLIENT;
+    }
+    ferretgold_held_object held;
+    uint32_t status, changes = 0;
+    do {
+        it->in_use->untaken = true;
+        status = ferretgold_raw_object_pin_at(&it->in_use->session, shard, slot, &held);
+    } while (status > FERRETGOLD_MISS && may_retry(it, status, &changes));
+    if (status == FERRETGOLD_OK) {
+        *handle = shown(it->in_use, &held.handle, &held.key, &held.object, held.charge);
+    }
+    return leave(it, status);
+}
+
+/* The record that a handle points to. */
+static record *record_of(const ferretgold_object_handle *handle) {
+    return (record *)(uintptr_t)handle;
+}
+
+ferretgold_status ferretgold_object_ref(ferretgold_object_cache *cache,
+                                        const ferretgold_object_handle *handle) {
+    if (cache == NULL || handle == NULL) {
+        return FERRETGOLD_NULL;
+    }
+    record *it = record_of(handle);
+    if (it->owner->cache != cache
+        || atomic_load_explicit(&it->references, memory_order_relaxed) == 0) {
+        return FERRETGOLD_NO_HANDLE;
+    }
+    atomic_fetch_add_explicit(&it->references, 1, memory_order_relaxed);
+    return FERRETGOLD_OK;
+}
+
+/* Ends the last reference: whether an entry was freed. */
+static bool given_back(record *it, bool useful, bool erase_if_last) {
+    object_client *client = it->owner;
+    object_cell *cell = enter_own(client);
+    if (cell == NULL) {
+        if (record_pushed(it, useful, erase_if_last) % WAITING == 0) {
+            relieve(cell_of(client->cache), client);
+        }
+        return false;
+    }
+    const ferretgold_handle handle = {(size_t)(it - client->records), it->serial, client->number,
+                                      client->cache->number};
+    bool freed = false;
+    (void)ferretgold_raw_object_release(&client->session, &handle, useful, erase_if_last, &freed);
+    client->untaken |= freed;
+    (void)leave(cell, FERRETGOLD_OK);
+    return freed;
+}
+
+ferretgold_status ferretgold_object_release(ferretgold_object_cache *cache,
+                                            const ferretgold_object_handle *handle, bool useful,
+                                            bool erase_if_last, bool *freed) {
+    if (cache == NULL || handle == NULL) {
+        return FERRETGOLD_NULL;
+    }
+    record *it = record_of(handle);
+    const unsigned seen = atomic_load_explicit(&it->references, memory_order_acquire);
+    if (it->owner->cache != cache || seen == 0) {
+        return FERRETGOLD_NO_HANDLE;
+    }
+    bool answer = false;
+    if (seen == 1 || atomic_fetch_sub(&it->references, 1) == 1) {
+        atomic_store_explicit(&it->references, 0, memory_order_relaxed);
+        answer = given_back(it, useful, erase_if_last);
+    }
+    if (freed != NULL) {
+        *freed = answer;
+    }
+    return FERRETGOLD_OK;
+}
+
+/* ---- Inserting -------------------------------------------------------------------------------- */
+
+/* An object that is to be inserted. */
+typedef struct insertion {
+    const ferretgold_key *key;
+    ferretgold_object_value value;
+    uint32_t charge;
+    uint32_t priority;
+    bool pinned;
+    uint32_t placing;
+    ferretgold_handle handle;
+} insertion;
+
+/* One try. Whether the client's list was full. */
+static uint32_t insert_once(object_client *client, insertion *it, bool *list_full) {
+    client->untaken = true;
+    *list_full = false;
+    return it->pinned ? ferretgold_raw_object_insert_pinned(&client->session, it->key, &it->value,
+                                                            it->charge, it->priority, &it->placing,
+                                                            list_full, &it->handle)
+                      : ferretgold_raw_object_insert(&client->session, it->key, &it->value,
+                                                     it->charge, it->priority, &it->placing,
+                                                     list_full);
+}
+
+/* Takes back an object that stands alone: it is the newest on the list then, and the caller's. */
+static void take_back(object_client *client, const insertion *it) {
+    bool freed = false;
+    ferretgold_key key;
+    ferretgold_object_value value;
+    (void)ferretgold_raw_object_release(&client->session, &it->handle, false, false, &freed);
+    (void)ferretgold_raw_object_take_gone(&client->session, &key, &value);
+}
+
+/* Where the list was full, the first call of a thread empties it and tries again. */
+static uint32_t insert_tries(object_cell *cell, insertion *it) {
+    uint32_t tries = 0, changes = 0;
+    for (;;) {
+        bool list_full = false;
+        const uint32_t status = insert_once(cell->in_use, it, &list_full);
+        list_full |= status == FERRETGOLD_GONE_FULL;
+        if (list_full && cell->depth == 1 && ++tries < INSERTIONS) {
+            if (status == FERRETGOLD_OK && it->pinned) {
+                take_back(cell->in_use, it);
+            }
+            run_deleters(cell->in_use);
+        } else if (status == FERRETGOLD_OK || !may_retry(cell, status, &changes)) {
+            return status;
+        }
+    }
+}
+
+/* What an insertion comes to for which no client is to be had. */
+static uint32_t insert_nowhere(insertion *it) {
+    if (it->priority >= PRIORITIES) {
+        return FERRETGOLD_BAD_PRIORITY;
+    }
+    if (it->charge == 0) {
+        return FERRETGOLD_NO_CHARGE;
+    }
+    if (it->value.address >> ADDRESS_BITS != 0) {
+        return FERRETGOLD_TOO_HIGH;
+    }
+    it->placing = FERRETGOLD_DROPPED;
+    return it->pinned ? FERRETGOLD_NO_CLIENT : FERRETGOLD_OK;
+}
+
+static ferretgold_status insert(ferretgold_object_cache *cache, insertion *it,
+                                ferretgold_inserted *inserted,
+                                const ferretgold_object_handle **handle, const char *call) {
+    const void *object = (const void *)(uintptr_t)it->value.address;
+    (void)call, (void)object;
+    object_cell *cell = enter(cache);
+    owned_begins(cache->owned, object, it->value.kind, call);
+    const uint32_t status = cell != NULL ? insert_tries(cell, it) : insert_nowhere(it);
+    if (status != FERRETGOLD_OK || it->placing == FERRETGOLD_DROPPED) {
+        owned_ends(cache->owned, object, it->value.kind);
+    }
+    if (status == FERRETGOLD_OK) {
+        if (inserted != NULL) {
+            *inserted = (ferretgold_inserted)it->placing;
+        }
+        if (it->pinned) {
+            *handle = shown(cell->in_use, &it->handle, it->key, &it->value, it->charge);
+        }
+    }
+    return cell != NULL ? leave(cell, status) : (ferretgold_status)status;
+}
+
+ferretgold_status ferretgold_object_insert(ferretgold_object_cache *cache,
+                                           const ferretgold_key *key, void *object, uint16_t kind,
+                                           uint32_t charge, ferretgold_priority priority,
+                                           ferretgold_inserted *inserted) {
+    if (cache == NULL || key == NULL) {
+        return FERRETGOLD_NULL;
+    }
+    insertion it = {key, {(uintptr_t)object, kind}, charge, (uint32_t)priority, false, 0,
+                    {0, 0, 0, 0}};
+    return insert(cache, &it, inserted, NULL, __func__);
+}
+
+ferretgold_status ferretgold_object_insert_pinned(ferretgold_object_cache *cache,
+                                                  const ferretgold_key *key, void *object,
+                                                  uint16_t kind, uint32_t charge,
+                                                  ferretgold_priority priority,
+                                                  ferretgold_inserted *inserted,
+                                                  const ferretgold_object_handle **handle) {
+    if (cache == NULL || key == NULL || handle == NULL) {
+        return FERRETGOLD_NULL;
+    }
+    insertion it = {key, {(uintptr_t)object, kind}, charge, (uint32_t)priority, true, 0,
+                    {0, 0, 0, 0}};
+    return insert(cache, &it, inserted, handle, __func__);
+}
+
+ferretgold_status ferretgold_object_erase(ferretgold_object_cache *cache,
+                                          const ferretgold_key *key, uint32_t *hidden) {
+    if (cache == NULL || key == NULL) {
+        return FERRETGOLD_NULL;
+    }
+    object_cell *it = enter(cache);
+    if (it == NULL) {
+        return FERRETGOLD_NO_CLIENT;
+    }
+    uint32_t ignored = 0;
+    it->in_use->untaken = true;
+    return leave(it, ferretgold_raw_object_erase(&it->in_use->session, key,
+                                                 hidden != NULL ? hidden : &ignored));
+}
+
+ferretgold_status ferretgold_object_collect(ferretgold_object_cache *cache) {
+    if (cache == NULL) {
+        return FERRETGOLD_NULL;
+    }
+    relieve_all(cache);
+    return FERRETGOLD_OK;
+}

@@ -1,0 +1,151 @@
+/* What the files of a cache of objects share: its clients, the threads that name them, and the records
+ * that handles point to. */
+#ifndef OBJECT_H
+#define OBJECT_H
+
+#include "ferretgold_object.h"
+#include "ferretgold_raw.h"
+#include "heap.h"
+
+#include <stdatomic.h>
+
+/* What a handle points to: one cache line of its client, in the place of the proved handle's index.
+ * It is filled while the client has it, and then read by any thread, until the proved handle is given
+ * back. */
+typedef struct record {
+    _Alignas(LINE) ferretgold_object_handle shows;
+    uint64_t serial;             /* of the proved handle */
+    struct object_client *owner; /* whose it is, from the opening on */
+    struct record *next;         /* on the queue of what other threads gave back */
+    atomic_uint references;      /* 0 once it was given back */
+    _Atomic(uint16_t) depth;     /* how many are on the queue with this one */
+    bool useful;                 /* how it was given back */
+    bool erase_if_last;
+} record;
+
+_Static_assert(sizeof(record) == LINE, "a record is one line");
+
+/* A client. One thread names it at most, and works through it while nobody else has claimed it. */
+typedef struct object_client {
+    _Alignas(LINE) ferretgold_object session; /* the proved library's */
+    ferretgold_object_cache *cache;
+    record *records;                /* one for each handle */
+    _Atomic(record *) backlog;      /* taken off the queue, and not given back yet */
+    atomic_uint claim;              /* the thread that names it, and whether somebody claims it */
+    atomic_bool inside;             /* its thread is in a call: written by that thread */
+    bool untaken;                   /* something may be on the proved list */
+    uint32_t number;
+    _Alignas(LINE) _Atomic(record *) queue; /* of what other threads gave back */
+} object_client;
+
+/* The number of the thread that names a client stands above this bit, by which another one claims it. */
+enum { NOBODY = 0, CLAIMED = 1 };
+
+struct ferretgold_object_cache {
+    _Alignas(LINE) uint64_t life; /* a number that no other cache of the process has */
+    uint32_t home;                /* where threads look for it first */
+    uint32_t number;              /* the proved cache's, which its handles have */
+    object_client *client;
+    ferretgold_deleter *deleter;
+    void *context;
+    ferretgold_object_config config;
+    ferretgold_object cache; /* the proved library's */
+    ferretgold_object left;  /* the place for what is left when it is closed */
+    struct owned *owned;     /* what the checking library knows of it */
+};
+
+/* What a thread knows of a cache. */
+typedef struct object_cell {
+    uint64_t life;         /* of the cache; 0 if this cell is free */
+    object_client *client; /* that the thread names; null if it names none */
+    object_client *in_use; /* by its call */
+    uint32_t depth;        /* how many calls it is in: more than one from a deleter */
+} object_cell;
+
+enum { CELLS = 4 };
+
+/* What a thread knows of caches. It allocates nothing, in a library that is loaded late either. */
+typedef struct object_thread {
+    object_cell cell[CELLS];
+    uint32_t token;  /* the number by which it names clients */
+    uint32_t cursor; /* where it looks for a client to borrow */
+} object_thread;
+
+extern _Thread_local object_thread object_self __attribute__((tls_model("initial-exec")));
+
+/* ---- object_clients.c ------------------------------------------------------------------------- */
+
+/* Whether claims work here: to be asked once, when a cache is opened. */
+void claims_begin(void);
+
+/* The cell of a cache that isn't in its home; null if each is in use by calls on other caches. */
+object_cell *cell_found(const ferretgold_object_cache *cache);
+
+/* Finds a client for a thread's call whose own one can't serve. Whether there was one. */
+bool client_found(ferretgold_object_cache *cache, object_cell *it);
+
+/* Goes on with another client in a call whose client is full. Whether there was one. */
+bool client_changed(ferretgold_object_cache *cache, object_cell *it);
+
+/* Claims a client that is in no call. Whether it did. */
+bool client_claimed(object_client *client);
+void client_unclaimed(object_client *client);
+
+/* The thread gives up a client, at the end of its call. */
+void client_left(object_cell *it);
+
+/* Pushes a record on its client's queue: how many are on it then. */
+uint32_t record_pushed(record *it, bool useful, bool erase_if_last);
+
+/* Gives back at most so many handles of those that other threads gave back, and runs no deleter. */
+void records_given_back(object_client *client, uint32_t most);
+
+/* ---- object.c --------------------------------------------------------------------------------- */
+
+/* Runs the deleter of an object that was freed. */
+void delete_object(ferretgold_object_cache *cache, const ferretgold_key *key,
+                   const ferretgold_object_value *value);
+
+/* Runs the deleter of all that is on a client's list: what its calls put there meanwhile, too. */
+void run_deleters(object_client *client);
+
+/* ---- object_owned.c, of the checking library -------------------------------------------------- */
+
+#ifdef FERRETGOLD_CHECK
+/* What a cache has to know of objects that may stand in it once; null if memory is refused. */
+struct owned *owned_made(const ferretgold_object_config *config);
+void owned_kind(struct owned *it, uint16_t kind);
+/* An object is to be inserted: the program ends if it stands already. */
+void owned_begins(struct owned *it, const void *object, uint16_t kind, const char *call);
+void owned_ends(struct owned *it, const void *object, uint16_t kind);
+void owned_freed(struct owned *it);
+#endif
+
+/* ---- Entering a cache and leaving it ---------------------------------------------------------- */
+
+/* Whether something waits to be given back. */
+static inline bool has_returned(object_client *client) {
+    return atomic_load_explicit(&client->queue, memory_order_relaxed) != NULL
+           || atomic_load_explicit(&client->backlog, memory_order_relaxed) != NULL;
+}
+
+/* A thread begins to use the client that it names, unless that is claimed. Who claims it makes all
+ * threads pass a barrier before it looks at `inside`: so a plain store and a load do here. */
+static inline bool own_entered(object_cell *it) {
+    object_client *client = it->client;
+    atomic_store_explicit(&client->inside, true, memory_order_relaxed);
+    atomic_signal_fence(memory_order_seq_cst);
+    if (atomic_load_explicit(&client->claim, memory_order_acquire) != object_self.token) {
+        atomic_store_explicit(&client->inside, false, memory_order_release);
+        return false;
+    }
+    it->in_use = client;
+    return true;
+}
+
+static inline object_cell *cell_of(const ferretgold_object_cache *cache) {
+    object_cell *it = &object_self.cell[cache->home];
+    return it->life == cache->life ? it : cell_found(cache);
+}
+
+#endif

@@ -1,0 +1,192 @@
+/* Clients of a cache of objects, which belong to the cache: a thread names one, and whoever finds one
+ * that is in no call may claim it for a call of its own. No thread waits for another.
+ *
+ * A client's thread says that it is in a call by a plain store, and then loads who claims the client.
+ * Who claims it stores that, has all threads of the process pass a barrier, and then looks whether the
+ * client's thread is in a call. So one of the two sees the other. */
+#define _GNU_SOURCE /* for syscall */
+#include "object.h"
+
+#include <errno.h>
+#include <linux/membarrier.h>
+#include <signal.h>
+#include <sys/syscall.h>
+#include <unistd.h>
+
+/* How many clients are claimed in vain before a call goes without, and how many handles one call gives
+ * back for others. */
+enum { TRIES = 4 };
+
+_Thread_local object_thread object_self;
+
+/* ---- Barriers and threads --------------------------------------------------------------------- */
+
+static long membarrier(int command) {
+    return syscall(SYS_membarrier, command, 0, 0);
+}
+
+void claims_begin(void) {
+    (void)membarrier(MEMBARRIER_CMD_REGISTER_PRIVATE_EXPEDITED);
+}
+
+/* Has all threads of the process pass a barrier: false where the system can't. */
+static bool all_fenced(void) {
+    return membarrier(MEMBARRIER_CMD_PRIVATE_EXPEDITED) == 0
+           || membarrier(MEMBARRIER_CMD_GLOBAL) == 0;
+}
+
+static uint32_t own_token(void) {
+    if (object_self.token == NOBODY) {
+        object_self.token = (uint32_t)syscall(SYS_gettid) << 1;
+    }
+    return object_self.token;
+}
+
+/* Whether the thread of a token has ended. */
+static bool has_ended(uint32_t token) {
+    return syscall(SYS_tgkill, getpid(), token >> 1, 0) != 0 && errno == ESRCH;
+}
+
+/* ---- Cells ------------------------------------------------------------------------------------ */
+
+/* A cell whose cache was closed is like one of another cache: nothing of it is touched. A thread that
+ * loses the cell of a cache finds the client that it names there by its token. */
+object_cell *cell_found(const ferretgold_object_cache *cache) {
+    object_cell *free = NULL;
+    for (uint32_t k = 0; k < CELLS; k++) {
+        object_cell *it = &object_self.cell[(cache->home + k) % CELLS];
+        if (it->life == cache->life) {
+            return it;
+        }
+        if (free == NULL && it->depth == 0) {
+            free = it;
+        }
+    }
+    if (free != NULL) {
+        *free = (object_cell){cache->life, NULL, NULL, 0};
+    }
+    return free;
+}
+
+/* ---- Claims ----------------------------------------------------------------------------------- */
+
+bool client_claimed(object_client *client) {
+    uint32_t seen = atomic_load_explicit(&client->claim, memory_order_relaxed);
+    if ((seen & CLAIMED) != 0 || atomic_load_explicit(&client->inside, memory_order_relaxed)) {
+        return false;
+    }
+    if (!atomic_compare_exchange_strong(&client->claim, &seen, seen | CLAIMED)) {
+        return false;
+    }
+    if (seen == NOBODY || (all_fenced() && !atomic_load(&client->inside))) {
+        return true;
+    }
+    client_unclaimed(client);
+    return false;
+}
+
+void client_unclaimed(object_client *client) {
+    const uint32_t seen = atomic_load_explicit(&client->claim, memory_order_relaxed);
+    atomic_store(&client->claim, seen & ~(uint32_t)CLAIMED);
+}
+
+/* A thread names a client that it has claimed, and is in a call of it. */
+static void adopt(object_cell *it, object_client *client) {
+    it->client = client;
+    it->in_use = client;
+    atomic_store(&client->inside, true);
+    atomic_store(&client->claim, own_token());
+}
+
+/* Claims a client that this token names, from a number on; null if there is none. */
+static object_client *named_by(ferretgold_object_cache *cache, uint32_t token, uint32_t first) {
+    for (uint32_t n = 0; n < cache->config.clients; n++) {
+        object_client *client = &cache->client[(first + n) % cache->config.clients];
+        uint32_t seen = token;
+        if (atomic_load_explicit(&client->claim, memory_order_relaxed) == seen
+            && atomic_compare_exchange_strong(&client->claim, &seen, seen | CLAIMED)) {
+            return client;
+        }
+    }
+    return NULL;
+}
+
+/* Claims a client that some thread names, and that is in no call; null if a few tries found none. */
+static object_client *borrowed(ferretgold_object_cache *cache) {
+    uint32_t tries = 0;
+    for (uint32_t n = 0; n < cache->config.clients && tries < TRIES; n++) {
+        object_client *client = &cache->client[object_self.cursor++ % cache->config.clients];
+        if (client_claimed(client)) {
+            return client;
+        }
+        tries += !atomic_load_explicit(&client->inside, memory_order_relaxed);
+    }
+    return NULL;
+}
+
+/* Takes one of these for the thread's call: to keep, if its thread has ended. */
+static bool has_borrowed(ferretgold_object_cache *cache, object_cell *it) {
+    object_client *client = borrowed(cache);
+    if (client == NULL) {
+        return false;
+    }
+    const uint32_t named = atomic_load_explicit(&client->claim, memory_order_relaxed) >> 1 << 1;
+    if (client == it->client || (it->client == NULL && (named == NOBODY || has_ended(named)))) {
+        adopt(it, client);
+    }
+    it->in_use = client;
+    return true;
+}
+
+/* A client that this thread names, and has no cell of, is nobody's: the thread that named it has ended,
+ * and this one has its number; or the cell went to another cache. */
+bool client_found(ferretgold_object_cache *cache, object_cell *it) {
+    if (it->client == NULL) {
+        const uint32_t token = own_token();
+        object_client *client = named_by(cache, token, 0);
+        if (client == NULL) {
+            client = named_by(cache, NOBODY, token >> 1);
+        }
+        if (client != NULL) {
+            adopt(it, client);
+            return true;
+        }
+    }
+    return has_borrowed(cache, it);
+}
+
+/* The thread's own client is nobody's from now on. Where somebody claims it just now it stays this
+ * thread's, until that ends. */
+static void give_up(object_client *client) {
+    uint32_t token = object_self.token;
+    atomic_store(&client->inside, false);
+    (void)atomic_compare_exchange_strong(&client->claim, &token, NOBODY);
+}
+
+bool client_changed(ferretgold_object_cache *cache, object_cell *it) {
+    object_client *full = it->in_use;
+    const bool is_own = full == it->client;
+    object_client *next = is_own ? named_by(cache, NOBODY, full->number + 1) : NULL;
+    if (next != NULL) {
+        adopt(it, next);
+        give_up(full);
+        return true;
+    }
+    if (!has_borrowed(cache, it)) {
+        return false;
+    }
+    if (is_own) {
+        atomic_store(&full->inside, false);
+    } else {
+        client_unclaimed(full);
+    }
+    return true;
+}
+
+void client_left(object_cell *it) {
+    if (it->in_use == it->client) {
+        atomic_store_explicit(&it->client->inside, false, memory_order_release);
+    } else {
+        client_unclaimed(it->in_use);
+    }
+}

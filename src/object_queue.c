@@ -1,0 +1,45 @@
+/* Handles that other threads than their client's give back: on the client's queue, which whoever is in
+ * a call of the client empties. */
+#include "object.h"
+
+/* The newest is the first on the queue. Who takes it takes all that is on it by one exchange, so that
+ * a record which is found at its front by two loads stands above the same one. */
+uint32_t record_pushed(record *it, bool useful, bool erase_if_last) {
+    object_client *client = it->owner;
+    record *head = atomic_load_explicit(&client->queue, memory_order_relaxed);
+    uint16_t depth = 0;
+    it->useful = useful;
+    it->erase_if_last = erase_if_last;
+    do {
+        it->next = head;
+        depth = head != NULL ? atomic_load_explicit(&head->depth, memory_order_relaxed) : 0;
+        depth = (uint16_t)(depth + 1);
+        atomic_store_explicit(&it->depth, depth, memory_order_relaxed);
+    } while (!atomic_compare_exchange_weak_explicit(&client->queue, &head, it, memory_order_acq_rel,
+                                                    memory_order_relaxed));
+    return depth;
+}
+
+/* The next record that was given back; null if there is none. What stands behind it is kept apart
+ * first: its place may be used again once its handle is given back. */
+static record *taken_next(object_client *client) {
+    record *it = atomic_load_explicit(&client->backlog, memory_order_relaxed);
+    if (it == NULL) {
+        it = atomic_exchange(&client->queue, NULL);
+    }
+    if (it != NULL) {
+        atomic_store_explicit(&client->backlog, it->next, memory_order_relaxed);
+    }
+    return it;
+}
+
+void records_given_back(object_client *client, uint32_t most) {
+    for (record *it = NULL; most > 0 && (it = taken_next(client)) != NULL; most--) {
+        const ferretgold_handle handle = {(size_t)(it - client->records), it->serial,
+                                          client->number, client->cache->number};
+        bool freed = false;
+        (void)ferretgold_raw_object_release(&client->session, &handle, it->useful,
+                                            it->erase_if_last, &freed);
+        client->untaken |= freed;
+    }
+}

@@ -1,0 +1,24 @@
+/* What the files of the test of ferretgold_object.h share. */
+#ifndef OBJECT_TEST_H
+#define OBJECT_TEST_H
+
+#include "ferretgold_object.h"
+#include "heap.h"
+
+#include <stdatomic.h>
+#include <stdio.h>
+
+extern atomic_ulong object_faults;
+
+/* Notes a fault, if a number isn't as it should be. */
+void expect(const char *file, int line, const char *what, long long is, long long wanted);
+#define EXPECT(what, wanted) \
+    expect(__FILE__, __LINE__, #what, (long long)(what), (long long)(wanted))
+
+/* A small cache: 8 slots, 100 of capacity, one client with 4 handles. */
+ferretgold_object_config small_cache(void);
+
+/* What several do: so many operations of all. */
+void object_threads(unsigned long operations);
+
+#endif
