@@ -25,47 +25,7 @@ enum {
 #define owned_freed(owned) ((void)0)
 #endif
 
-/* ---- A call from its beginning to its end ----------------------------------------------------- */
-
-/* Begins a call that needs a client: the thread's cell of the cache; null if no client is to be had.
- * The first call of a thread gives a few handles back that other threads left; its deleters' calls
- * go through the same client. */
-static inline object_cell *enter(ferretgold_object_cache *cache) {
-    object_cell *it = cell_of(cache);
-    if (it == NULL) {
-        return NULL;
-    }
-    if (it->depth == 0) {
-        if ((it->client == NULL || !own_entered(it)) && !client_found(cache, it)) {
-            return NULL;
-        }
-        if (has_returned(it->in_use)) {
-            records_given_back(it->in_use, SOME);
-        }
-    }
-    it->depth += 1;
-    return it;
-}
-
-/* Begins a call that only this client can serve, if the thread has it at hand. */
-static inline object_cell *enter_own(object_client *client) {
-    object_cell *it = cell_of(client->cache);
-    if (it == NULL) {
-        return NULL;
-    }
-    if (it->depth == 0) {
-        if (it->client != client || !own_entered(it)) {
-            return NULL;
-        }
-        if (has_returned(client)) {
-            records_given_back(client, SOME);
-        }
-    } else if (it->in_use != client) {
-        return NULL;
-    }
-    it->depth += 1;
-    return it;
-}
+/* ---- Deleters --------------------------------------------------------------------------------- */
 
 void delete_object(ferretgold_object_cache *cache, const ferretgold_key *key,
                    const ferretgold_object_value *value) {
@@ -81,6 +41,66 @@ void run_deleters(object_client *client) {
         delete_object(client->cache, &key, &value);
     }
     client->untaken = false;
+}
+
+/* As few as each list has places for, so that each may free its entry. */
+static bool some_given_back(object_client *client) {
+    const bool more = records_given_back(client, SOME);
+    if (client->untaken) {
+        run_deleters(client);
+    }
+    return more;
+}
+
+void give_back_some(object_client *client) {
+    (void)some_given_back(client);
+}
+
+void give_back_all(object_client *client) {
+    while (some_given_back(client)) {
+    }
+}
+
+/* ---- A call from its beginning to its end ----------------------------------------------------- */
+
+/* Begins a call that needs a client: the thread's cell of the cache; null if no client is to be had.
+ * The first call of a thread gives a few handles back that other threads left; its deleters' calls
+ * go through the same client. */
+static inline object_cell *enter(ferretgold_object_cache *cache) {
+    object_cell *it = cell_of(cache);
+    if (it == NULL) {
+        return NULL;
+    }
+    if (it->depth++ == 0) {
+        if ((it->client == NULL || !own_entered(it)) && !client_found(cache, it)) {
+            it->depth = 0;
+            return NULL;
+        }
+        if (has_returned(it->in_use)) {
+            give_back_some(it->in_use);
+        }
+    }
+    return it;
+}
+
+/* Begins a call that only this client can serve, if the thread has it at hand. */
+static inline object_cell *enter_own(object_client *client) {
+    object_cell *it = cell_of(client->cache);
+    if (it == NULL) {
+        return NULL;
+    }
+    if (it->depth > 0) {
+        it->depth += it->in_use == client;
+        return it->in_use == client ? it : NULL;
+    }
+    if (it->client != client || !own_entered(it)) {
+        return NULL;
+    }
+    it->depth = 1;
+    if (has_returned(client)) {
+        give_back_some(client);
+    }
+    return it;
 }
 
 /* Ends a call: the first of a thread runs the deleters of what was freed. */
@@ -102,12 +122,12 @@ static bool may_retry(object_cell *it, uint32_t status, uint32_t *changes) {
     if ((status != FERRETGOLD_HANDLES_FULL && status != FERRETGOLD_SPENT) || it->depth > 1) {
         return false;
     }
-    if (status == FERRETGOLD_HANDLES_FULL && has_returned(client)) {
-        records_given_back(client, UINT32_MAX);
-        return true;
-    }
     if (client->untaken) {
         run_deleters(client);
+    }
+    if (status == FERRETGOLD_HANDLES_FULL && has_returned(client)) {
+        give_back_all(client);
+        return true;
     }
     *changes += 1;
     return *changes <= CHANGES && client_changed(client->cache, it);
@@ -123,7 +143,7 @@ static void relieve(object_cell *it, object_client *client) {
     }
     it->in_use = client;
     it->depth = 1;
-    records_given_back(client, UINT32_MAX);
+    give_back_all(client);
     (void)leave(it, FERRETGOLD_OK);
 }
 

@@ -97,8 +97,9 @@ void client_left(object_cell *it);
 /* Pushes a record on its client's queue: how many are on it then. */
 uint32_t record_pushed(record *it, bool useful, bool erase_if_last);
 
-/* Gives back at most so many handles of those that other threads gave back, and runs no deleter. */
-void records_given_back(object_client *client, uint32_t most);
+/* Gives back at most so many handles of those that other threads gave back, and runs no deleter. Whether
+ * there were as many. */
+bool records_given_back(object_client *client, uint32_t most);
 
 /* ---- object.c --------------------------------------------------------------------------------- */
 
@@ -108,6 +109,10 @@ void delete_object(ferretgold_object_cache *cache, const ferretgold_key *key,
 
 /* Runs the deleter of all that is on a client's list: what its calls put there meanwhile, too. */
 void run_deleters(object_client *client);
+
+/* Gives back a few of the handles that other threads gave back, or all, and runs deleters. */
+void give_back_some(object_client *client);
+void give_back_all(object_client *client);
 
 /* ---- object_owned.c, of the checking library -------------------------------------------------- */
 

@@ -177,8 +177,7 @@ static void settle_all(ferretgold_object_cache *cache, object_cell *it) {
             if (has_returned(client) || client->untaken) {
                 it->in_use = client;
                 again = true;
-                records_given_back(client, UINT32_MAX);
-                run_deleters(client);
+                give_back_all(client);
             }
         }
     }

@@ -33,7 +33,7 @@ static record *taken_next(object_client *client) {
     return it;
 }
 
-void records_given_back(object_client *client, uint32_t most) {
+bool records_given_back(object_client *client, uint32_t most) {
     for (record *it = NULL; most > 0 && (it = taken_next(client)) != NULL; most--) {
         const ferretgold_handle handle = {(size_t)(it - client->records), it->serial,
                                           client->number, client->cache->number};
@@ -42,4 +42,5 @@ void records_given_back(object_client *client, uint32_t most) {
                                             it->erase_if_last, &freed);
         client->untaken |= freed;
     }
+    return most == 0;
 }

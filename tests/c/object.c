@@ -1,7 +1,7 @@
 /* The calls of ferretgold_object.h on one thread: answers and refusals, whose the object is after each,
  * when deleters run and what they may do, and the memory of a cache. tests/c/object_threads.c has what
  * several threads do.
- * Linked with heap.c. Usage: object [OPERATIONS]    of eight threads: 1,000,000 by default
+ * Linked with heap.c. Usage: object [OPERATIONS]    of eight threads: 1,000,000 at most and by default
  *                            object owned           ends by the checking library's line */
 #include "object_test.h"
 
