@@ -7,7 +7,8 @@
  * tested (SECURITY.md); docs/GUIDE.md says how to use it and how to choose the sizes. The header is
  * for C11, C++11 and later; libferretgold.a exports its functions, also those that are inline here.
  * ferretgold_large.h has calls for values of up to 16 MiB, ferretgold_closed.h reads what is left of
- * a cache, and with ferretgold_image.h one begins with entries.
+ * a cache, with ferretgold_image.h one begins with entries, and ferretgold_object.h has caches of
+ * pointers in place of bytes.
  *
  *     ferretgold_config config;
  *     ferretgold_cache *cache;
@@ -69,7 +70,7 @@
  *     numbers, and the library takes each size that ferretgold_config had. Calls that fill one fill
  *     the 48 bytes that it has now.
  *   A PATCH changes neither. libferretgold.so exports the functions of this header, of _closed.h,
- *   _image.h and _large.h, and of ferretgold_raw.h those that ferretgold_inline.h calls.
+ *   _image.h, _large.h and _object.h, and of ferretgold_raw.h those that ferretgold_inline.h calls.
  */
 #ifndef FERRETGOLD_H
 #define FERRETGOLD_H

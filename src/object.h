@@ -69,6 +69,7 @@ typedef struct object_thread {
     object_cell cell[CELLS];
     uint32_t token;  /* the number by which it names clients */
     uint32_t cursor; /* where it looks for a client to borrow */
+    uint32_t turn;   /* which cell goes to another cache next */
 } object_thread;
 
 extern _Thread_local object_thread object_self __attribute__((tls_model("initial-exec")));

@@ -49,23 +49,33 @@ static bool has_ended(uint32_t token) {
 
 /* ---- Cells ------------------------------------------------------------------------------------ */
 
-/* A cell whose cache was closed is like one of another cache: nothing of it is touched. A thread that
- * loses the cell of a cache finds the client that it names there by its token. */
-object_cell *cell_found(const ferretgold_object_cache *cache) {
-    object_cell *free = NULL;
+/* A cell that no call is in, each in turn; null if there is none. It may be that of a cache which was
+ * closed: nothing of that is touched. A thread that loses the cell of a cache finds the client that it
+ * names there by its token. */
+static object_cell *cell_freed(void) {
     for (uint32_t k = 0; k < CELLS; k++) {
-        object_cell *it = &object_self.cell[(cache->home + k) % CELLS];
-        if (it->life == cache->life) {
+        object_cell *it = &object_self.cell[object_self.turn++ % CELLS];
+        if (it->depth == 0) {
             return it;
         }
-        if (free == NULL && it->depth == 0) {
-            free = it;
+    }
+    return NULL;
+}
+
+object_cell *cell_found(const ferretgold_object_cache *cache) {
+    for (uint32_t k = 0; k < CELLS; k++) {
+        if (object_self.cell[k].life == cache->life) {
+            return &object_self.cell[k];
         }
     }
-    if (free != NULL) {
-        *free = (object_cell){cache->life, NULL, NULL, 0};
+    object_cell *it = &object_self.cell[cache->home];
+    if (it->life != 0) {
+        it = cell_freed();
     }
-    return free;
+    if (it != NULL) {
+        *it = (object_cell){cache->life, NULL, NULL, 0};
+    }
+    return it;
 }
 
 /* ---- Claims ----------------------------------------------------------------------------------- */
@@ -78,7 +88,8 @@ bool client_claimed(object_client *client) {
     if (!atomic_compare_exchange_strong(&client->claim, &seen, seen | CLAIMED)) {
         return false;
     }
-    if (seen == NOBODY || (all_fenced() && !atomic_load(&client->inside))) {
+    if (seen == NOBODY
+        || ((all_fenced() || has_ended(seen)) && !atomic_load(&client->inside))) {
         return true;
     }
     client_unclaimed(client);
@@ -143,7 +154,7 @@ static bool has_borrowed(ferretgold_object_cache *cache, object_cell *it) {
 bool client_found(ferretgold_object_cache *cache, object_cell *it) {
     if (it->client == NULL) {
         const uint32_t token = own_token();
-        object_client *client = named_by(cache, token, 0);
+        object_client *client = named_by(cache, token, token >> 1);
         if (client == NULL) {
             client = named_by(cache, NOBODY, token >> 1);
         }

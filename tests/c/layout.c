@@ -1,6 +1,7 @@
 /* The layout that programs are compiled against: it changes only with intent. That the library has
  * the same, tests/static/check.py looks. */
 #include "ferretgold_closed.h"
+#include "ferretgold_object.h"
 #include "ferretgold_raw.h"
 
 #define SIZE_IS(type, size) \
@@ -65,6 +66,25 @@ AT(ferretgold_entry, uses, 28, 4)
 AT(ferretgold_entry, visible, 32, 1)
 AT(ferretgold_entry, hit, 33, 1)
 
+SIZE_IS(ferretgold_object_config, 48)
+AT(ferretgold_object_config, slots, 0, 4)
+AT(ferretgold_object_config, clients, 4, 4)
+AT(ferretgold_object_config, handles, 8, 4)
+AT(ferretgold_object_config, gone, 12, 4)
+AT(ferretgold_object_config, shards, 16, 4)
+AT(ferretgold_object_config, strict, 20, 1)
+AT(ferretgold_object_config, marks, 21, 1)
+AT(ferretgold_object_config, size, 22, 2)
+AT(ferretgold_object_config, capacity, 24, 8)
+AT(ferretgold_object_config, serials, 32, 8)
+AT(ferretgold_object_config, seed, 40, 8)
+
+SIZE_IS(ferretgold_object_handle, 32)
+AT(ferretgold_object_handle, object, 0, 8)
+AT(ferretgold_object_handle, key, 8, 16)
+AT(ferretgold_object_handle, charge, 24, 4)
+AT(ferretgold_object_handle, kind, 28, 2)
+
 SIZE_IS(ferretgold_object, 8)
 SIZE_IS(ferretgold_status, 4)
 SIZE_IS(ferretgold_priority, 4)
@@ -97,6 +117,10 @@ IS(FERRETGOLD_OTHER_CACHE, 37)
 IS(FERRETGOLD_HANDLES_OUT, 38)
 IS(FERRETGOLD_CLIENTS_OUT, 39)
 IS(FERRETGOLD_BAD_SIZE, 40)
+IS(FERRETGOLD_GONE_FULL, 41)
+IS(FERRETGOLD_TOO_HIGH, 42)
+IS(FERRETGOLD_BAD_GONE, 43)
+IS(FERRETGOLD_UNTAKEN, 44)
 IS(FERRETGOLD_HIGH, 0)
 IS(FERRETGOLD_LOW, 1)
 IS(FERRETGOLD_BOTTOM, 2)

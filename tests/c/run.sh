@@ -1,10 +1,11 @@
 #!/usr/bin/env bash
 # Builds the library and the examples for C, C++ and Rust, and runs them: the misuses that the
 # header names among them, C with each request for memory refused; plays traces of calls through the
-# headers; lets threads borrow clients, read values that others replace, and hand objects back; and C
-# and C++ again with the C file under AddressSanitizer and UndefinedBehaviorSanitizer, the threads under
-# ThreadSanitizer. It wants crates/hcc_c/out/libhcc_c.a, as `rt lib` in crates/hcc_c makes it, and
-# fails where a compiler is missing.
+# headers; lets threads borrow clients, read values that others replace, and hand objects back, by the
+# proved calls and by the header for objects; and C and C++ again with the C file under AddressSanitizer
+# and UndefinedBehaviorSanitizer, the threads under ThreadSanitizer. It wants
+# crates/hcc_c/out/libhcc_c.a, as `rt lib` in crates/hcc_c makes it, and fails where a compiler is
+# missing.
 # Usage: tests/c/run.sh [READS]     of values that others replace: 4,000,000 by default
 set -u
 cd "$(dirname "$0")/../.." || exit 2
@@ -49,6 +50,19 @@ hands() {
     builds_counting "$2" cc -std=c11 "${@:3}" tests/c/objects.c && "$folder/built" "$1"
 }
 
+# Makes the calls of ferretgold_object.h, so many by threads: objects OPERATIONS LIBRARY WORD..
+objects() {
+    builds_counting "$2" cc -std=c11 "${@:3}" tests/c/object.c tests/c/object_threads.c && "$folder/built" "$1"
+}
+
+# The checking library ends a program that inserts an object which is to stand once, and does.
+owns() {
+    objects 100000 src/out/libferretgold_check.a -O2 -DFERRETGOLD_CHECK \
+        && ! "$folder/built" owned > "$folder/met" 2>&1 \
+        && grep -qE '^ferretgold: object 0x[0-9a-f]+ of kind 3 stands in the cache already: ferretgold_object_insert$' \
+            "$folder/met" && [[ $(wc -l < "$folder/met") == 1 ]]
+}
+
 # Builds a program and runs it: runs WORD..
 runs() {
     builds "$@" && "$folder/built"
@@ -73,10 +87,11 @@ is_ended() {
         && [[ $(wc -l < "$folder/met") == 1 ]]
 }
 
-# Both libraries have each function of the header as a symbol, for a binding of another language.
+# Both libraries have each function of the headers as a symbol, for a binding of another language.
 exports() {
     local library
-    grep -oE '\bferretgold_[a-z_]+\(' include/ferretgold.h | tr -d '(' | sort -u > "$folder/declared"
+    sed 's/^ \*.*//' include/ferretgold.h include/ferretgold_object.h | grep -oE '\bferretgold_[a-z_]+\(' \
+        | tr -d '(' | sort -u > "$folder/declared"
     for library in src/out/libferretgold{,_check}.a; do
         nm -g --defined-only "$library" | sed -n 's/.* T //p' | sort > "$folder/defined"
         [[ -s $folder/declared && -z $(comm -23 "$folder/declared" "$folder/defined") ]] || return
@@ -139,6 +154,8 @@ if command -v cc > /dev/null; then
     done
     tries "threads read what others replace" reads "${1:-4000000}" "$library" -O2
     tries "threads hand objects back" hands 15000000 "$library" -O2
+    tries "the header for objects" objects 1000000 "$library" -O2
+    tries "the header for objects, checked" owns
     tries "two threads in one client, checked" meets
     tries "each function of the header is a symbol of the library" exports
     tries "C with memory refused" bears_refusals
@@ -149,6 +166,9 @@ if command -v cc > /dev/null; then
         tries "C, sanitized" prints "$in_c" run-c SANITIZE=address,undefined LIBRARY="$library"
         tries "traces in C, sanitized" plays "$library" cc -std=c11 "${sanitize[@]}" "${traces[@]}"
         tries "threads hand objects back, sanitized" hands 400000 "$library" -O1 "${sanitize[@]}"
+        tries "the header for objects, sanitized" objects 400000 "$library" -O1 "${sanitize[@]}"
+        tries "the header for objects, threads sanitized" objects 400000 "$folder/threads/libferretgold.a" -O1 \
+            -fsanitize=thread
         for clients in 3 70; do
             tries "threads borrow $clients clients, sanitized" lends $clients 400000 \
                 "$folder/threads/libferretgold.a" -O1 -fsanitize=thread

@@ -10,8 +10,9 @@ TOP = Path(__file__).resolve().parent.parent.parent
 CRATE = TOP / "crates/hcc_c/src"
 # The structs that cross, as the library and as C call them.
 STRUCTS = {"Key": "key", "CHandle": "handle", "CConfig": "config", "Stats": "stats", "Totals": "totals",
-           "Counts": "counts", "Entry": "entry"}
-SIZES = {"bool": 1, "u32": 4, "u64": 8, "usize": 8, "Key": 16}
+           "Counts": "counts", "Entry": "entry", "CObject": "object_value", "CHeldObject": "held_object",
+           "CObjectConfig": "object_config"}
+SIZES = {"bool": 1, "u16": 2, "u32": 4, "u64": 8, "usize": 8, "Key": 16, "CObject": 16, "CHandle": 24}
 RUST = TOP / "rust/src"
 PLAIN = {"uint16_t": "u16", "uint32_t": "u32", "uint64_t": "u64", "size_t": "usize", "bool": "bool",
          "void": "c_void", "char": "c_char", "ferretgold_status": "u32", "ferretgold_priority": "u32",
@@ -29,9 +30,10 @@ def source(name):
 
 def structs():
     """What C's struct has to be, of each #[repr(C)] struct."""
-    found = re.findall(r"#\[repr\(C\)\]\s*pub struct (\w+) \{(.*?)\n\}", source("shapes.rt"), re.S)
+    text = source("shapes.rt") + source("object_shapes.rt")
+    found = re.findall(r"#\[repr\(C\)\]\s*pub struct (\w+) \{(.*?)\n\}", text, re.S)
     if {name for name, _ in found} != set(STRUCTS):
-        raise ValueError(f"structs in shapes.rt: {[name for name, _ in found]}")
+        raise ValueError(f"structs in shapes.rt and object_shapes.rt: {[name for name, _ in found]}")
     for name, body in found:
         at, widest = 0, 1
         for field, kind in re.findall(r"pub (\w+): (\w+),", body):
@@ -65,7 +67,8 @@ def layout():
     the numbers of both."""
     asserts = [*structs(), *library_numbers()]
     lines = [f'_Static_assert({it}, "the library has {it}");' for it in asserts]
-    text = '#include "ferretgold_closed.h"\n#include "ferretgold_raw.h"\n' + "\n".join(lines) + "\n"
+    headers = "".join(f'#include "ferretgold_{it}.h"\n' for it in ("closed", "object", "raw"))
+    text = headers + "\n".join(lines) + "\n"
     words = ["cc", "-std=c11", "-Wall", "-Wextra", "-Werror", "-fsyntax-only", f"-I{TOP}/include"]
     how = {"text": True, "check": False, "capture_output": True}
     for ran in (subprocess.run([*words, "-x", "c", "-"], input=text, **how),
