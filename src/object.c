@@ -240,23 +240,28 @@ ferretgold_status ferretgold_object_ref(ferretgold_object_cache *cache,
     return FERRETGOLD_OK;
 }
 
-/* Ends the last reference: whether an entry was freed. */
-static bool given_back(record *it, bool useful, bool erase_if_last) {
+/* Leaves a handle to its client, and gives back what waits there if that is much. */
+static void leave_behind(record *it, bool useful, bool erase_if_last) {
+    object_client *client = it->owner;
+    if (record_pushed(it, useful, erase_if_last) % WAITING == 0) {
+        relieve(cell_of(client->cache), client);
+    }
+}
+
+/* Ends the last reference. */
+static ferretgold_status give_back(record *it, bool useful, bool erase_if_last, bool *freed) {
     object_client *client = it->owner;
     object_cell *cell = enter_own(client);
     if (cell == NULL) {
-        if (record_pushed(it, useful, erase_if_last) % WAITING == 0) {
-            relieve(cell_of(client->cache), client);
-        }
-        return false;
+        leave_behind(it, useful, erase_if_last);
+        return FERRETGOLD_OK;
     }
     const ferretgold_handle handle = {(size_t)(it - client->records), it->serial, client->number,
                                       client->cache->number};
-    bool freed = false;
-    (void)ferretgold_raw_object_release(&client->session, &handle, useful, erase_if_last, &freed);
-    client->untaken |= freed;
-    (void)leave(cell, FERRETGOLD_OK);
-    return freed;
+    const uint32_t status = ferretgold_raw_object_release(&client->session, &handle, useful,
+                                                          erase_if_last, freed);
+    client->untaken |= *freed;
+    return leave(cell, status);
 }
 
 ferretgold_status ferretgold_object_release(ferretgold_object_cache *cache,
@@ -271,14 +276,15 @@ ferretgold_status ferretgold_object_release(ferretgold_object_cache *cache,
         return FERRETGOLD_NO_HANDLE;
     }
     bool answer = false;
+    ferretgold_status status = FERRETGOLD_OK;
     if (seen == 1 || atomic_fetch_sub(&it->references, 1) == 1) {
         atomic_store_explicit(&it->references, 0, memory_order_relaxed);
-        answer = given_back(it, useful, erase_if_last);
+        status = give_back(it, useful, erase_if_last, &answer);
     }
     if (freed != NULL) {
         *freed = answer;
     }
-    return FERRETGOLD_OK;
+    return status;
 }
 
 /* ---- Inserting -------------------------------------------------------------------------------- */

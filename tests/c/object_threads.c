@@ -407,6 +407,17 @@ static void insert_one(worker *it) {
     }
 }
 
+/* Leaves one handle to others, and gives back one that another thread left. */
+static void exchange(worker *it) {
+    it->holds -= 1;
+    const ferretgold_object_handle *handle =
+        atomic_exchange(&mail[drawn(it, MAIL)], it->handles[it->holds]);
+    if (handle != NULL) {
+        it->elsewhere += 1;
+        give_back(it, handle);
+    }
+}
+
 /* Calls the cache from a deleter, and holds as many handles then as before. */
 static void come_back(worker *it) {
     const unsigned holds = it->holds;
@@ -419,8 +430,7 @@ static void come_back(worker *it) {
         look_up(it);
     }
     while (it->holds > holds) {
-        it->holds -= 1;
-        give_back(it, it->handles[it->holds]);
+        exchange(it);
     }
 }
 
@@ -438,17 +448,6 @@ static void delete_one(void *context, const ferretgold_key *key, void *deleted, 
         it->deletes = true;
         come_back(it);
         it->deletes = false;
-    }
-}
-
-/* Leaves one handle to others, and gives back one that another thread left. */
-static void exchange(worker *it) {
-    it->holds -= 1;
-    const ferretgold_object_handle *handle =
-        atomic_exchange(&mail[drawn(it, MAIL)], it->handles[it->holds]);
-    if (handle != NULL) {
-        it->elsewhere += 1;
-        give_back(it, handle);
     }
 }
 
