@@ -63,35 +63,37 @@ void give_back_all(object_client *client) {
 
 /* ---- A call from its beginning to its end ----------------------------------------------------- */
 
+/* A deleter's call begins. */
+SLOWLY static object_cell *entered_again(object_cell *it) {
+    if (it != NULL) {
+        it->depth += 1;
+    }
+    return it;
+}
+
 /* Begins a call that needs a client: the thread's cell of the cache; null if no client is to be had.
  * The first call of a thread gives a few handles back that other threads left; its deleters' calls
  * go through the same client. */
 static inline object_cell *enter(ferretgold_object_cache *cache) {
     object_cell *it = cell_of(cache);
-    if (it == NULL) {
+    if (RARELY(it == NULL || it->depth > 0)) {
+        return entered_again(it);
+    }
+    if (RARELY(it->client == NULL || !own_entered(it)) && !client_found(cache, it)) {
         return NULL;
     }
-    if (it->depth++ == 0) {
-        if ((it->client == NULL || !own_entered(it)) && !client_found(cache, it)) {
-            it->depth = 0;
-            return NULL;
-        }
-        if (has_returned(it->in_use)) {
-            give_back_some(it->in_use);
-        }
+    it->depth = 1;
+    if (RARELY(has_returned(it->in_use))) {
+        give_back_some(it->in_use);
     }
     return it;
 }
 
 /* Begins a call that only this client can serve, if the thread has it at hand. */
-static inline object_cell *enter_own(object_client *client) {
+static object_cell *enter_own(object_client *client) {
     object_cell *it = cell_of(client->cache);
-    if (it == NULL) {
-        return NULL;
-    }
-    if (it->depth > 0) {
-        it->depth += it->in_use == client;
-        return it->in_use == client ? it : NULL;
+    if (it == NULL || it->depth > 0) {
+        return it == NULL || it->in_use != client ? NULL : entered_again(it);
     }
     if (it->client != client || !own_entered(it)) {
         return NULL;
@@ -103,21 +105,38 @@ static inline object_cell *enter_own(object_client *client) {
     return it;
 }
 
+/* Begins a call on the thread's own client that runs no deleter, where nothing else is to be done: null
+ * in all other cases. */
+static inline object_client *enter_plainly(const ferretgold_object_cache *cache) {
+    const object_cell *it = &object_self.cell[cache->home];
+    if (RARELY(it->life != cache->life || it->depth > 0 || it->client == NULL)) {
+        return NULL;
+    }
+    object_client *client = it->client;
+    return RARELY(has_returned(client) || !client_entered(client)) ? NULL : client;
+}
+
 /* Ends a call: the first of a thread runs the deleters of what was freed. */
 static inline ferretgold_status leave(object_cell *it, uint32_t status) {
-    if (it->depth == 1) {
-        if (it->in_use->untaken) {
-            run_deleters(it->in_use);
-        }
-        client_left(it);
+    if (RARELY(it->depth > 1)) {
+        it->depth -= 1;
+        return (ferretgold_status)status;
     }
-    it->depth -= 1;
+    if (RARELY(it->in_use->untaken)) {
+        run_deleters(it->in_use);
+    }
+    it->depth = 0;
+    if (it->in_use == it->client) {
+        client_left(it->client);
+    } else {
+        client_unclaimed(it->in_use);
+    }
     return (ferretgold_status)status;
 }
 
 /* Whether a call that this status refuses is to be tried again: other threads gave back handles of its
  * client, or it has another client now. */
-static bool may_retry(object_cell *it, uint32_t status, uint32_t *changes) {
+SLOWLY static bool may_retry(object_cell *it, uint32_t status, uint32_t *changes) {
     object_client *client = it->in_use;
     if ((status != FERRETGOLD_HANDLES_FULL && status != FERRETGOLD_SPENT) || it->depth > 1) {
         return false;
@@ -167,9 +186,38 @@ static inline const ferretgold_object_handle *shown(object_client *client,
     it->shows.key = *key;
     it->shows.charge = (uint32_t)charge;
     it->shows.kind = value->kind;
-    it->serial = handle->serial;
+    it->handle = *handle;
     atomic_store_explicit(&it->references, 1, memory_order_relaxed);
     return &it->shows;
+}
+
+/* Looks a key up by one client. */
+static inline uint32_t looked_up(object_client *client, const ferretgold_key *key,
+                                 const ferretgold_object_handle **handle) {
+    ferretgold_handle found;
+    ferretgold_object_value value;
+    const uint32_t status = ferretgold_raw_object_lookup(&client->session, key, &found, &value);
+    if (status == FERRETGOLD_OK) {
+        uint64_t charge = 0;
+        (void)ferretgold_raw_object_charge(&client->session, &found, &charge);
+        *handle = shown(client, &found, key, &value, charge);
+    }
+    return status;
+}
+
+/* The same where more is to be done than that. */
+SLOWLY static ferretgold_status looked_up_slowly(ferretgold_object_cache *cache,
+                                                 const ferretgold_key *key,
+                                                 const ferretgold_object_handle **handle) {
+    object_cell *it = enter(cache);
+    if (it == NULL) {
+        return FERRETGOLD_MISS;
+    }
+    uint32_t status = looked_up(it->in_use, key, handle);
+    for (uint32_t changes = 0; status > FERRETGOLD_MISS && may_retry(it, status, &changes);) {
+        status = looked_up(it->in_use, key, handle);
+    }
+    return leave(it, status);
 }
 
 ferretgold_status ferretgold_object_lookup(ferretgold_object_cache *cache,
@@ -178,22 +226,14 @@ ferretgold_status ferretgold_object_lookup(ferretgold_object_cache *cache,
     if (cache == NULL || key == NULL || handle == NULL) {
         return FERRETGOLD_NULL;
     }
-    object_cell *it = enter(cache);
-    if (it == NULL) {
-        return FERRETGOLD_MISS;
+    object_client *client = enter_plainly(cache);
+    if (RARELY(client == NULL)) {
+        return looked_up_slowly(cache, key, handle);
     }
-    ferretgold_handle found;
-    ferretgold_object_value value;
-    uint32_t status, changes = 0;
-    do {
-        status = ferretgold_raw_object_lookup(&it->in_use->session, key, &found, &value);
-    } while (status > FERRETGOLD_MISS && may_retry(it, status, &changes));
-    if (status == FERRETGOLD_OK) {
-        uint64_t charge = 0;
-        (void)ferretgold_raw_object_charge(&it->in_use->session, &found, &charge);
-        *handle = shown(it->in_use, &found, key, &value, charge);
-    }
-    return leave(it, status);
+    const uint32_t status = looked_up(client, key, handle);
+    client_left(client);
+    return RARELY(status > FERRETGOLD_MISS) ? looked_up_slowly(cache, key, handle)
+                                            : (ferretgold_status)status;
 }
 
 ferretgold_status ferretgold_object_pin_at(ferretgold_object_cache *cache, uint32_t shard,
@@ -232,7 +272,7 @@ ferretgold_status ferretgold_object_ref(ferretgold_object_cache *cache,
         return FERRETGOLD_NULL;
     }
     record *it = record_of(handle);
-    if (it->owner->cache != cache
+    if (it->handle.cache != cache->number
         || atomic_load_explicit(&it->references, memory_order_relaxed) == 0) {
         return FERRETGOLD_NO_HANDLE;
     }
@@ -240,51 +280,73 @@ ferretgold_status ferretgold_object_ref(ferretgold_object_cache *cache,
     return FERRETGOLD_OK;
 }
 
-/* Leaves a handle to its client, and gives back what waits there if that is much. */
-static void leave_behind(record *it, bool useful, bool erase_if_last) {
-    object_client *client = it->owner;
-    if (record_pushed(it, useful, erase_if_last) % WAITING == 0) {
-        relieve(cell_of(client->cache), client);
-    }
-}
-
-/* Ends the last reference. */
-static ferretgold_status give_back(record *it, bool useful, bool erase_if_last, bool *freed) {
-    object_client *client = it->owner;
+/* Gives a handle back by its client, whose call this is, or leaves it to that, and gives back what waits
+ * there if that is much. */
+SLOWLY static ferretgold_status given_back(ferretgold_object_cache *cache, record *it,
+                                           bool useful, bool erase_if_last, bool *freed) {
+    object_client *client = &cache->client[it->handle.client];
     object_cell *cell = enter_own(client);
     if (cell == NULL) {
-        leave_behind(it, useful, erase_if_last);
+        if (record_pushed(client, it, useful, erase_if_last) % WAITING == 0) {
+            relieve(cell_of(cache), client);
+        }
         return FERRETGOLD_OK;
     }
-    const ferretgold_handle handle = {(size_t)(it - client->records), it->serial, client->number,
-                                      client->cache->number};
-    const uint32_t status = ferretgold_raw_object_release(&client->session, &handle, useful,
+    const uint32_t status = ferretgold_raw_object_release(&client->session, &it->handle, useful,
                                                           erase_if_last, freed);
     client->untaken |= *freed;
     return leave(cell, status);
 }
 
+/* The deleters of what a client freed that had nothing else to do. */
+SLOWLY static ferretgold_status left_with_deleters(object_client *client, uint32_t status) {
+    object_cell *it = cell_of(client->cache);
+    it->in_use = client;
+    it->depth = 1;
+    client->untaken = true;
+    return leave(it, status);
+}
+
+/* Ends a reference. Whether it was the last one. */
+static inline bool is_last(record *it, unsigned seen) {
+    if (RARELY(seen > 1) && atomic_fetch_sub(&it->references, 1) > 1) {
+        return false;
+    }
+    atomic_store_explicit(&it->references, 0, memory_order_relaxed);
+    return true;
+}
+
 ferretgold_status ferretgold_object_release(ferretgold_object_cache *cache,
                                             const ferretgold_object_handle *handle, bool useful,
                                             bool erase_if_last, bool *freed) {
+    bool ignored;
     if (cache == NULL || handle == NULL) {
         return FERRETGOLD_NULL;
     }
     record *it = record_of(handle);
     const unsigned seen = atomic_load_explicit(&it->references, memory_order_acquire);
-    if (it->owner->cache != cache || seen == 0) {
+    if (it->handle.cache != cache->number || seen == 0) {
         return FERRETGOLD_NO_HANDLE;
     }
-    bool answer = false;
-    ferretgold_status status = FERRETGOLD_OK;
-    if (seen == 1 || atomic_fetch_sub(&it->references, 1) == 1) {
-        atomic_store_explicit(&it->references, 0, memory_order_relaxed);
-        status = give_back(it, useful, erase_if_last, &answer);
+    freed = freed != NULL ? freed : &ignored;
+    *freed = false;
+    if (RARELY(!is_last(it, seen))) {
+        return FERRETGOLD_OK;
     }
-    if (freed != NULL) {
-        *freed = answer;
+    object_client *client = enter_plainly(cache);
+    if (RARELY(client == NULL || client->number != it->handle.client)) {
+        if (client != NULL) {
+            client_left(client);
+        }
+        return given_back(cache, it, useful, erase_if_last, freed);
     }
-    return status;
+    const uint32_t status = ferretgold_raw_object_release(&client->session, &it->handle, useful,
+                                                          erase_if_last, freed);
+    if (RARELY(*freed)) {
+        return left_with_deleters(client, status);
+    }
+    client_left(client);
+    return (ferretgold_status)status;
 }
 
 /* ---- Inserting -------------------------------------------------------------------------------- */

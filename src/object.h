@@ -9,17 +9,19 @@
 
 #include <stdatomic.h>
 
+/* What is laid out of the usual way. */
+#define RARELY(what) __builtin_expect(!!(what), 0)
+#define SLOWLY __attribute__((noinline, cold))
+
 /* What a handle points to: one cache line of its client, in the place of the proved handle's index.
  * It is filled while the client has it, and then read by any thread, until the proved handle is given
- * back. */
+ * back. On the queue of what other threads gave back the next record stands in place of the object. */
 typedef struct record {
     _Alignas(LINE) ferretgold_object_handle shows;
-    uint64_t serial;             /* of the proved handle */
-    struct object_client *owner; /* whose it is, from the opening on */
-    struct record *next;         /* on the queue of what other threads gave back */
-    atomic_uint references;      /* 0 once it was given back */
-    _Atomic(uint16_t) depth;     /* how many are on the queue with this one */
-    bool useful;                 /* how it was given back */
+    ferretgold_handle handle; /* the proved one */
+    atomic_uint references;   /* 0 once it was given back */
+    _Atomic(uint16_t) depth;  /* how many are on the queue with this one */
+    bool useful;              /* how it was given back */
     bool erase_if_last;
 } record;
 
@@ -92,11 +94,8 @@ bool client_changed(ferretgold_object_cache *cache, object_cell *it);
 bool client_claimed(object_client *client);
 void client_unclaimed(object_client *client);
 
-/* The thread gives up a client, at the end of its call. */
-void client_left(object_cell *it);
-
 /* Pushes a record on its client's queue: how many are on it then. */
-uint32_t record_pushed(record *it, bool useful, bool erase_if_last);
+uint32_t record_pushed(object_client *client, record *it, bool useful, bool erase_if_last);
 
 /* Gives back at most so many handles of those that other threads gave back, and runs no deleter. Whether
  * there were as many. */
@@ -137,21 +136,29 @@ static inline bool has_returned(object_client *client) {
 
 /* A thread begins to use the client that it names, unless that is claimed. Who claims it makes all
  * threads pass a barrier before it looks at `inside`: so a plain store and a load do here. */
-static inline bool own_entered(object_cell *it) {
-    object_client *client = it->client;
+static inline bool client_entered(object_client *client) {
     atomic_store_explicit(&client->inside, true, memory_order_relaxed);
     atomic_signal_fence(memory_order_seq_cst);
-    if (atomic_load_explicit(&client->claim, memory_order_acquire) != object_self.token) {
+    if (RARELY(atomic_load_explicit(&client->claim, memory_order_acquire) != object_self.token)) {
         atomic_store_explicit(&client->inside, false, memory_order_release);
         return false;
     }
-    it->in_use = client;
     return true;
+}
+
+static inline void client_left(object_client *client) {
+    atomic_store_explicit(&client->inside, false, memory_order_release);
+}
+
+/* The same for a call that may run deleters, or change its client. */
+static inline bool own_entered(object_cell *it) {
+    it->in_use = it->client;
+    return client_entered(it->client);
 }
 
 static inline object_cell *cell_of(const ferretgold_object_cache *cache) {
     object_cell *it = &object_self.cell[cache->home];
-    return it->life == cache->life ? it : cell_found(cache);
+    return RARELY(it->life != cache->life) ? cell_found(cache) : it;
 }
 
 #endif

@@ -193,11 +193,3 @@ bool client_changed(ferretgold_object_cache *cache, object_cell *it) {
     }
     return true;
 }
-
-void client_left(object_cell *it) {
-    if (it->in_use == it->client) {
-        atomic_store_explicit(&it->client->inside, false, memory_order_release);
-    } else {
-        client_unclaimed(it->in_use);
-    }
-}

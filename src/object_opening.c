@@ -69,9 +69,6 @@ static ferretgold_object_cache *made(const ferretgold_object_config *config) {
         client->cache = it;
         client->number = number;
         client->records = &records[(size_t)number * config->handles];
-        for (uint32_t k = 0; k < config->handles; k++) {
-            client->records[k].owner = client;
-        }
     }
     return it;
 }

@@ -4,14 +4,13 @@
 
 /* The newest is the first on the queue. Who takes it takes all that is on it by one exchange, so that
  * a record which is found at its front by two loads stands above the same one. */
-uint32_t record_pushed(record *it, bool useful, bool erase_if_last) {
-    object_client *client = it->owner;
+uint32_t record_pushed(object_client *client, record *it, bool useful, bool erase_if_last) {
     record *head = atomic_load_explicit(&client->queue, memory_order_relaxed);
     uint16_t depth = 0;
     it->useful = useful;
     it->erase_if_last = erase_if_last;
     do {
-        it->next = head;
+        it->shows.object = head;
         depth = head != NULL ? atomic_load_explicit(&head->depth, memory_order_relaxed) : 0;
         depth = (uint16_t)(depth + 1);
         atomic_store_explicit(&it->depth, depth, memory_order_relaxed);
@@ -28,17 +27,16 @@ static record *taken_next(object_client *client) {
         it = atomic_exchange(&client->queue, NULL);
     }
     if (it != NULL) {
-        atomic_store_explicit(&client->backlog, it->next, memory_order_relaxed);
+        record *next = it->shows.object;
+        atomic_store_explicit(&client->backlog, next, memory_order_relaxed);
     }
     return it;
 }
 
 bool records_given_back(object_client *client, uint32_t most) {
     for (record *it = NULL; most > 0 && (it = taken_next(client)) != NULL; most--) {
-        const ferretgold_handle handle = {(size_t)(it - client->records), it->serial,
-                                          client->number, client->cache->number};
         bool freed = false;
-        (void)ferretgold_raw_object_release(&client->session, &handle, it->useful,
+        (void)ferretgold_raw_object_release(&client->session, &it->handle, it->useful,
                                             it->erase_if_last, &freed);
         client->untaken |= freed;
     }
