@@ -1,12 +1,12 @@
 /*
- * ferretgold_object.h - a cache of objects: each entry stands for something of the program's, which is
- * handed back to the program, once, when the entry goes.
+ * ferretgold_object.h - a cache of objects: each entry stands for something of the program's, which
+ * is handed back to the program, once, when the entry goes.
  *
- * An object is a pointer and a kind. The cache never looks where it points, copies nothing, and gives
- * readers the pointer itself. What ferretgold.h says of keys, charges, priorities, refusals and of what
- * isn't checked holds here too; there is no copying call, and values have no size.
+ * An object is a pointer and a kind. The cache never looks where it points, copies nothing, and
+ * gives readers the pointer itself. What ferretgold.h says of keys, charges, priorities, refusals
+ * and of what isn't checked holds here too; there is no copying call, and values have no size.
  *
- *     static void delete_block(void *context, const ferretgold_key *key, void *object, uint16_t kind);
+ *     void delete_block(void *context, const ferretgold_key *key, void *object, uint16_t kind);
  *
  *     ferretgold_object_config config = FERRETGOLD_OBJECT_CONFIG;
  *     ferretgold_object_cache *cache;
@@ -18,57 +18,58 @@
  *     }
  *
  * WHAT IS PROVED
- *   The proved library under this header hands each object that was placed back once, to the call that
- *   freed its entry, and not while anybody holds that (docs/GUARANTEES.md). What the header adds is
- *   tested, not proved: which client a thread works through, handles that other threads give back, and
- *   when deleters run.
+ *   The proved library under this header hands each object that was placed back once, to the call
+ *   that freed its entry, and not while anybody holds that (docs/GUARANTEES.md). What the header
+ *   adds is tested, not proved: which client a thread works through, handles that other threads
+ *   give back, and when deleters run.
  *
  * OBJECTS
- *   A pointer is any number below 2^48, null too, and may stand under two keys: then it is handed back
- *   twice. For kinds of which each object is to stand once (ferretgold_object_owns) the checking
- *   library ends the program at a second insertion.
+ *   A pointer is any number below 2^48, null too, and may stand under two keys: then it is handed
+ *   back twice. For kinds of which each object is to stand once (ferretgold_object_owns) the
+ *   checking library ends the program at a second insertion.
  *
- *   | Answer                                  | The object is then                                 |
- *   |-----------------------------------------|----------------------------------------------------|
- *   | insert, insert_pinned: PLACED           | the cache's: a deleter gets it, once               |
- *   | insert_pinned: STANDALONE               | its handle's: a deleter gets it when that goes     |
- *   | insert: DROPPED, and each refusal       | the caller's still: no deleter runs for it         |
+ *   | Answer                                  | The object is then                                |
+ *   |-----------------------------------------|---------------------------------------------------|
+ *   | insert, insert_pinned: PLACED           | the cache's: a deleter gets it, once              |
+ *   | insert_pinned: STANDALONE               | its handle's: a deleter gets it when that goes    |
+ *   | insert: DROPPED, and each refusal       | the caller's still: no deleter runs for it        |
  *
  * DELETERS
- *   The deleter of a cache gets each object that was placed or stood alone, with the key and kind of
- *   its insertion, once: on the thread whose call freed the entry, when the proved call is over and
- *   before this one returns, also after an insertion that was refused, which may have evicted others.
- *   - It may call the cache, except to close it. What its calls free is deleted by the same loop, when
- *     it is over: so deleters never nest, and the stack stays as deep, however many there are. For that
- *     time its thread's calls have one client and that one's list: they may be refused by HANDLES_FULL
- *     or GONE_FULL, and erase without freeing, where others wouldn't be.
+ *   The deleter of a cache gets each object that was placed or stood alone, with the key and kind
+ *   of its insertion, once: on the thread whose call freed the entry, when the proved call is over
+ *   and before this one returns, also after an insertion that was refused, which may have evicted
+ *   others.
+ *   - It may call the cache, except to close it. What its calls free is deleted by the same loop,
+ *     when it is over: so deleters never nest, and the stack stays as deep, however many there are.
+ *     For that time its thread's calls have one client and that one's list: they may be refused by
+ *     HANDLES_FULL or GONE_FULL, and erase without freeing, where others wouldn't be.
  *   - It must return: it neither throws nor jumps out, nor ends its thread.
- *   - A release whose `freed` is true may have freed another entry than its handle's. An entry that was
- *     erased while it was held is freed by some later call, or when the cache is closed.
+ *   - A release whose `freed` is true may have freed another entry than its handle's. An entry that
+ *     was erased while it was held is freed by some later call, or when the cache is closed.
  *
  * THREADS
- *   All threads may make all calls at once, except that ferretgold_object_close comes after all others.
- *   A thread needs no client: each call finds the one that its thread used last, or takes one that no
- *   thread uses. Clients belong to the cache. A thread that ends, or lives on when the cache is closed,
- *   leaves nothing behind.
- *   - No thread waits for another. Where there are more threads than clients, a call works through a
- *     client that is in no call just then, which costs a system call (membarrier). If it finds none, a
- *     look-up misses, `insert` drops, and what else needs a client refuses by NO_CLIENT.
+ *   All threads may make all calls at once, except that ferretgold_object_close comes after all
+ *   others. A thread needs no client: each call finds the one that its thread used last, or takes
+ *   one that no thread uses. Clients belong to the cache. A thread that ends, or lives on when the
+ *   cache is closed, leaves nothing behind.
+ *   - No thread waits for another. Where there are more threads than clients, a call works through
+ *     a client that is in no call just then, which costs a system call (membarrier). If it finds
+ *     none, a look-up misses, `insert` drops, and what else needs a client refuses by NO_CLIENT.
  *   - A client with no handle left to give, or no serial, is changed for another.
  *
  * HANDLES
- *   A handle is a pointer to what it shows, which any thread may read until it is given back. Any thread
- *   may give it back. One that did not get it leaves it on a queue of its client; that gives it back at
- *   a later call, a few at a time, or whoever finds more than 64 there, walks
- *   (ferretgold_object_pin_at of the first slot), collects or closes does, if the client is in no call.
- *   Until then its entry stays held. A handle that was given back is refused by NO_HANDLE at best:
- *   its place is used again, and then it is another handle.
+ *   A handle is a pointer to what it shows, which any thread may read until it is given back. Any
+ *   thread may give it back. One that did not get it leaves it on a queue of its client; that gives
+ *   it back at a later call, a few at a time, or whoever finds more than 64 there, walks
+ *   (ferretgold_object_pin_at of the first slot), collects or closes does, if the client is in no
+ *   call. Until then its entry stays held. A handle that was given back is refused by NO_HANDLE at
+ *   best: its place is used again, and then it is another handle.
  *
  * COSTS
- *   Calls allocate nothing, except opening. A look-up and a release cost what the proved calls do, a
- *   load of the charge, and some 50 instructions each. Bounds of atomic steps are those of the proved
- *   calls, times the tries of an insertion, with a release for each of at most 4 handles that other
- *   threads gave back.
+ *   Calls allocate nothing, except opening. A look-up and a release cost what the proved calls do,
+ *   a load of the charge, and some 50 instructions each. Bounds of atomic steps are those of the
+ *   proved calls, times the tries of an insertion, with a release for each of at most 4 handles
+ *   that other threads gave back.
  */
 #ifndef FERRETGOLD_OBJECT_H
 #define FERRETGOLD_OBJECT_H
@@ -81,8 +82,8 @@ extern "C" {
 
 /* Statuses of these calls beside those of ferretgold_status. */
 enum {
-    /* What was freed and not deleted yet, and what stands alone, fill the list of the thread's client:
-     * only of calls of deleters. */
+    /* What was freed and not deleted yet, and what stands alone, fill the list of the thread's
+     * client: only of calls of deleters. */
     FERRETGOLD_GONE_FULL = 41,
     /* The object's address is 2^48 or above. */
     FERRETGOLD_TOO_HIGH = 42,
@@ -92,8 +93,8 @@ enum {
     FERRETGOLD_UNTAKEN = 44
 };
 
-/* How large a cache is, and how it behaves: the fields of ferretgold_config, except that slots have no
- * room for values. */
+/* How large a cache is, and how it behaves: the fields of ferretgold_config, except that slots have
+ * no room for values. */
 typedef struct ferretgold_object_config {
     uint32_t slots;    /* of each shard: a power of two, 8 to 65,536 */
     uint32_t clients;  /* 1 to 1,024: at least as many as threads make calls at once */
@@ -104,12 +105,13 @@ typedef struct ferretgold_object_config {
     bool marks;        /* whether look-ups mark entries */
     uint16_t size;     /* of this struct in bytes, as FERRETGOLD_OBJECT_CONFIG has it; 0 is 48 */
     uint64_t capacity; /* in charges, at most 2^40; each shard has an equal part, rounded up */
-    uint64_t serials;  /* of each client: 1 to 2^54; each try of an insertion and each handle uses one */
+    uint64_t serials;  /* of each client: 1 to 2^54; each try to insert and each handle uses one */
     uint64_t seed;     /* of the keys; 0 only if keys are spread already, as hashes are */
 } ferretgold_object_config;
 
-/* A configuration to begin with: 16,384 slots, not strict, 64 clients, and as capacity 11,468 entries of
- * charge 4,096. Its seed is known to whoever reads this: draw one if others choose the keys. */
+/* A configuration to begin with: 16,384 slots, not strict, 64 clients, and as capacity 11,468
+ * entries of charge 4,096. Its seed is known to whoever reads this: draw one if others choose the
+ * keys. */
 #define FERRETGOLD_OBJECT_CONFIG \
     {4096, 64, 256, 256, 4, false, false, sizeof(ferretgold_object_config), 46972928, \
      FERRETGOLD_MOST_SERIALS, UINT64_C(0x9e3779b97f4a7c15)}
@@ -150,8 +152,8 @@ ferretgold_status ferretgold_object_config_check(const ferretgold_object_config 
  *
  * Allocates all that the cache will need (ferretgold_object_memory).
  *
- * Refuses BAD_SIZE, BAD_SLOTS, BAD_CLIENTS, BAD_HANDLES, BAD_SHARDS, BAD_CAPACITY, BAD_SERIALS, BAD_GONE,
- * then OUT_OF_MEMORY. Nothing remains then.
+ * Refuses BAD_SIZE, BAD_SLOTS, BAD_CLIENTS, BAD_HANDLES, BAD_SHARDS, BAD_CAPACITY, BAD_SERIALS,
+ * BAD_GONE, then OUT_OF_MEMORY. Nothing remains then.
  */
 ferretgold_status ferretgold_object_open(const ferretgold_object_config *config,
                                          ferretgold_deleter *deleter, void *context,
@@ -162,26 +164,27 @@ ferretgold_status ferretgold_object_config_of(const ferretgold_object_cache *cac
                                               ferretgold_object_config *config);
 
 /*
- * Says that each object of a kind, unless null, is to stand in the cache once: before the first one is
- * inserted. Only the checking library looks: it ends the program at an insertion of one that stands.
+ * Says that each object of a kind, unless null, is to stand in the cache once: before the first one
+ * is inserted. Only the checking library looks: it ends the program at an insertion of one that
+ * stands.
  */
 ferretgold_status ferretgold_object_owns(ferretgold_object_cache *cache, uint16_t kind);
 
 /*
- * Ends a cache whose handles were all given back, while no thread is in a call on it. Its deleter gets
- * all that is left; for what the table had, it can't call the cache with success: look-ups miss, `insert`
- * drops, the rest refuses by NO_CLIENT. All memory is freed then.
+ * Ends a cache whose handles were all given back, while no thread is in a call on it. Its deleter
+ * gets all that is left; for what the table had, it can't call the cache with success: look-ups
+ * miss, `insert` drops, the rest refuses by NO_CLIENT. All memory is freed then.
  *
- * Refuses CLIENTS_OUT, if it sees a thread in a call, also where a deleter calls it; HANDLES_OUT. After
- * a refusal the cache works on.
+ * Refuses CLIENTS_OUT, if it sees a thread in a call, also where a deleter calls it; HANDLES_OUT.
+ * After a refusal the cache works on.
  */
 ferretgold_status ferretgold_object_close(ferretgold_object_cache *cache);
 
 /* ---- Getting and giving back handles --------------------------------------------------------- */
 
 /*
- * Looks for a visible entry of the key. FERRETGOLD_OK: there is a handle on it. FERRETGOLD_MISS: there
- * was none that the thread's client could see, or no client was to be had.
+ * Looks for a visible entry of the key. FERRETGOLD_OK: there is a handle on it. FERRETGOLD_MISS:
+ * there was none that the thread's client could see, or no client was to be had.
  *
  * Refuses HANDLES_FULL, SPENT: after that of other clients; also if the key isn't there.
  */
@@ -190,8 +193,8 @@ ferretgold_status ferretgold_object_lookup(ferretgold_object_cache *cache,
                                            const ferretgold_object_handle **handle);
 
 /*
- * The same of the entry of a slot, if a visible one is there: for walks over a cache. MISS: there is none,
- * or no such slot. Where it finds a hidden one that nobody holds, it tries to free it.
+ * The same of the entry of a slot, if a visible one is there: for walks over a cache. MISS: there
+ * is none, or no such slot. Where it finds a hidden one that nobody holds, it tries to free it.
  *
  * Refuses NO_CLIENT, HANDLES_FULL, SPENT.
  */
@@ -200,8 +203,8 @@ ferretgold_status ferretgold_object_pin_at(ferretgold_object_cache *cache, uint3
                                            const ferretgold_object_handle **handle);
 
 /*
- * Counts one more reference on a handle, which has to be given back once for each. Any thread that may
- * use the handle may call this. Costs an atomic add. Needs no client.
+ * Counts one more reference on a handle, which has to be given back once for each. Any thread that
+ * may use the handle may call this. Costs an atomic add. Needs no client.
  *
  * Refuses NO_HANDLE.
  */
@@ -209,9 +212,9 @@ ferretgold_status ferretgold_object_ref(ferretgold_object_cache *cache,
                                         const ferretgold_object_handle *handle);
 
 /*
- * Gives a handle back. What `useful` and `erase_if_last` say, as in ferretgold_release, counts where it
- * is the last reference. `freed` gets whether this call freed an entry: never where the handle went on
- * a queue; it may be null. Needs no client.
+ * Gives a handle back. What `useful` and `erase_if_last` say, as in ferretgold_release, counts
+ * where it is the last reference. `freed` gets whether this call freed an entry: never where the
+ * handle went on a queue; it may be null. Needs no client.
  *
  * Refuses NO_HANDLE.
  */
@@ -220,8 +223,8 @@ ferretgold_status ferretgold_object_release(ferretgold_object_cache *cache,
                                             bool erase_if_last, bool *freed);
 
 /*
- * Gives back what waits on queues of clients that are in no call, so that its entries can go. Costs two
- * loads a client, and for each with something there a system call, and the releases.
+ * Gives back what waits on queues of clients that are in no call, so that its entries can go. Costs
+ * two loads a client, and for each with something there a system call, and the releases.
  */
 ferretgold_status ferretgold_object_collect(ferretgold_object_cache *cache);
 
@@ -229,12 +232,12 @@ ferretgold_status ferretgold_object_collect(ferretgold_object_cache *cache);
 
 /*
  * Inserts an object of this key and charge, and keeps no handle on it: PLACED or DROPPED, as
- * ferretgold_insert has it. `object` and `inserted` may be null. Where it isn't placed, and so much was
- * freed for it that the list of the thread's client is full, deleters run and it is tried again, four
- * times at most.
+ * ferretgold_insert has it. `object` and `inserted` may be null. Where it isn't placed, and so much
+ * was freed for it that the list of the thread's client is full, deleters run and it is tried
+ * again, four times at most.
  *
- * Refuses BAD_PRIORITY, NO_CHARGE, SPENT, TOO_HIGH, TOO_LARGE; and if strict, after evictions that stay
- * made, CAPACITY_FULL, OCCUPANCY_FULL.
+ * Refuses BAD_PRIORITY, NO_CHARGE, SPENT, TOO_HIGH, TOO_LARGE; and if strict, after evictions that
+ * stay made, CAPACITY_FULL, OCCUPANCY_FULL.
  */
 ferretgold_status ferretgold_object_insert(ferretgold_object_cache *cache,
                                            const ferretgold_key *key, void *object, uint16_t kind,
@@ -244,8 +247,9 @@ ferretgold_status ferretgold_object_insert(ferretgold_object_cache *cache,
 /*
  * The same, and gives a handle on it: PLACED or STANDALONE, as ferretgold_insert_pinned has it.
  *
- * Refuses NO_CLIENT, if the arguments are right; BAD_PRIORITY, NO_CHARGE, HANDLES_FULL, SPENT, GONE_FULL,
- * TOO_HIGH, TOO_LARGE; and if strict, after evictions that stay made, CAPACITY_FULL, OCCUPANCY_FULL.
+ * Refuses NO_CLIENT, if the arguments are right; BAD_PRIORITY, NO_CHARGE, HANDLES_FULL, SPENT,
+ * GONE_FULL, TOO_HIGH, TOO_LARGE; and if strict, after evictions that stay made, CAPACITY_FULL,
+ * OCCUPANCY_FULL.
  */
 ferretgold_status ferretgold_object_insert_pinned(ferretgold_object_cache *cache,
                                                   const ferretgold_key *key, void *object,

@@ -1,6 +1,6 @@
-/* The calls of ferretgold_object.h round those of the proved library: each works through a client of
- * the calling thread, fills the record that a handle points to, and runs deleters once it is over. It
- * is tested, not proved. */
+/* The calls of ferretgold_object.h round those of the proved library: each works through a client
+ * of the calling thread, fills the record that a handle points to, and runs deleters once it is
+ * over. It is tested, not proved. */
 #include "object.h"
 #include "limits.h"
 #include "opening.h"
@@ -17,7 +17,7 @@ enum {
     ADDRESS_BITS = 48
 };
 
-/* ---- What the checking library knows of objects ----------------------------------------------- */
+/* ---- What the checking library knows of objects ---------------------------------------------- */
 
 #ifndef FERRETGOLD_CHECK
 #define owned_begins(owned, object, kind, call) ((void)0)
@@ -25,7 +25,7 @@ enum {
 #define owned_freed(owned) ((void)0)
 #endif
 
-/* ---- Deleters --------------------------------------------------------------------------------- */
+/* ---- Deleters -------------------------------------------------------------------------------- */
 
 void delete_object(ferretgold_object_cache *cache, const ferretgold_key *key,
                    const ferretgold_object_value *value) {
@@ -61,7 +61,7 @@ void give_back_all(object_client *client) {
     }
 }
 
-/* ---- A call from its beginning to its end ----------------------------------------------------- */
+/* ---- A call from its beginning to its end ---------------------------------------------------- */
 
 /* A deleter's call begins. */
 SLOWLY static object_cell *entered_again(object_cell *it) {
@@ -71,9 +71,9 @@ SLOWLY static object_cell *entered_again(object_cell *it) {
     return it;
 }
 
-/* Begins a call that needs a client: the thread's cell of the cache; null if no client is to be had.
- * The first call of a thread gives a few handles back that other threads left; its deleters' calls
- * go through the same client. */
+/* Begins a call that needs a client: the thread's cell of the cache; null if no client is to be
+ * had. The first call of a thread gives a few handles back that other threads left; its deleters'
+ * calls go through the same client. */
 static inline object_cell *enter(ferretgold_object_cache *cache) {
     object_cell *it = cell_of(cache);
     if (RARELY(it == NULL || it->depth > 0)) {
@@ -105,8 +105,8 @@ static object_cell *enter_own(object_client *client) {
     return it;
 }
 
-/* Begins a call on the thread's own client that runs no deleter, where nothing else is to be done: null
- * in all other cases. */
+/* Begins a call on the thread's own client that runs no deleter, where nothing else is to be done:
+ * null in all other cases. */
 static inline object_client *enter_plainly(const ferretgold_object_cache *cache) {
     const object_cell *it = &object_self.cell[cache->home];
     if (RARELY(it->life != cache->life || it->depth > 0 || it->client == NULL)) {
@@ -134,8 +134,8 @@ static inline ferretgold_status leave(object_cell *it, uint32_t status) {
     return (ferretgold_status)status;
 }
 
-/* Whether a call that this status refuses is to be tried again: other threads gave back handles of its
- * client, or it has another client now. */
+/* Whether a call that this status refuses is to be tried again: other threads gave back handles of
+ * its client, or it has another client now. */
 SLOWLY static bool may_retry(object_cell *it, uint32_t status, uint32_t *changes) {
     object_client *client = it->in_use;
     if ((status != FERRETGOLD_HANDLES_FULL && status != FERRETGOLD_SPENT) || it->depth > 1) {
@@ -173,7 +173,7 @@ static void relieve_all(ferretgold_object_cache *cache) {
     }
 }
 
-/* ---- Handles ---------------------------------------------------------------------------------- */
+/* ---- Handles --------------------------------------------------------------------------------- */
 
 /* Fills the record of a proved handle. */
 static inline const ferretgold_object_handle *shown(object_client *client,
@@ -280,8 +280,8 @@ ferretgold_status ferretgold_object_ref(ferretgold_object_cache *cache,
     return FERRETGOLD_OK;
 }
 
-/* Gives a handle back by its client, whose call this is, or leaves it to that, and gives back what waits
- * there if that is much. */
+/* Gives a handle back by its client, whose call this is, or leaves it to that, and gives back what
+ * waits there if that is much. */
 SLOWLY static ferretgold_status given_back(ferretgold_object_cache *cache, record *it,
                                            bool useful, bool erase_if_last, bool *freed) {
     object_client *client = &cache->client[it->handle.client];
@@ -349,7 +349,7 @@ ferretgold_status ferretgold_object_release(ferretgold_object_cache *cache,
     return (ferretgold_status)status;
 }
 
-/* ---- Inserting -------------------------------------------------------------------------------- */
+/* ---- Inserting ------------------------------------------------------------------------------- */
 
 /* An object that is to be inserted. */
 typedef struct insertion {

@@ -1,5 +1,5 @@
-/* What the files of a cache of objects share: its clients, the threads that name them, and the records
- * that handles point to. */
+/* What the files of a cache of objects share: its clients, the threads that name them, and the
+ * records that handles point to. */
 #ifndef OBJECT_H
 #define OBJECT_H
 
@@ -14,8 +14,9 @@
 #define SLOWLY __attribute__((noinline, cold))
 
 /* What a handle points to: one cache line of its client, in the place of the proved handle's index.
- * It is filled while the client has it, and then read by any thread, until the proved handle is given
- * back. On the queue of what other threads gave back the next record stands in place of the object. */
+ * It is filled while the client has it, and then read by any thread, until the proved handle is
+ * given back. On the queue of what other threads gave back the next record stands in place of the
+ * object. */
 typedef struct record {
     _Alignas(LINE) ferretgold_object_handle shows;
     ferretgold_handle handle; /* the proved one */
@@ -40,7 +41,8 @@ typedef struct object_client {
     _Alignas(LINE) _Atomic(record *) queue; /* of what other threads gave back */
 } object_client;
 
-/* The number of the thread that names a client stands above this bit, by which another one claims it. */
+/* The number of the thread that names a client stands above this bit, by which another one claims
+ * it. */
 enum { NOBODY = 0, CLAIMED = 1 };
 
 struct ferretgold_object_cache {
@@ -76,7 +78,7 @@ typedef struct object_thread {
 
 extern _Thread_local object_thread object_self __attribute__((tls_model("initial-exec")));
 
-/* ---- object_clients.c ------------------------------------------------------------------------- */
+/* ---- object_clients.c ------------------------------------------------------------------------ */
 
 /* Whether claims work here: to be asked once, when a cache is opened. */
 void claims_begin(void);
@@ -97,11 +99,11 @@ void client_unclaimed(object_client *client);
 /* Pushes a record on its client's queue: how many are on it then. */
 uint32_t record_pushed(object_client *client, record *it, bool useful, bool erase_if_last);
 
-/* Gives back at most so many handles of those that other threads gave back, and runs no deleter. Whether
- * there were as many. */
+/* Gives back at most so many handles of those that other threads gave back, and runs no deleter.
+ * Whether there were as many. */
 bool records_given_back(object_client *client, uint32_t most);
 
-/* ---- object.c --------------------------------------------------------------------------------- */
+/* ---- object.c -------------------------------------------------------------------------------- */
 
 /* Runs the deleter of an object that was freed. */
 void delete_object(ferretgold_object_cache *cache, const ferretgold_key *key,
@@ -114,7 +116,7 @@ void run_deleters(object_client *client);
 void give_back_some(object_client *client);
 void give_back_all(object_client *client);
 
-/* ---- object_owned.c, of the checking library -------------------------------------------------- */
+/* ---- object_owned.c, of the checking library ------------------------------------------------- */
 
 #ifdef FERRETGOLD_CHECK
 /* What a cache has to know of objects that may stand in it once; null if memory is refused. */
@@ -126,7 +128,7 @@ void owned_ends(struct owned *it, const void *object, uint16_t kind);
 void owned_freed(struct owned *it);
 #endif
 
-/* ---- Entering a cache and leaving it ---------------------------------------------------------- */
+/* ---- Entering a cache and leaving it --------------------------------------------------------- */
 
 /* Whether something waits to be given back. */
 static inline bool has_returned(object_client *client) {

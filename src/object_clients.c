@@ -1,9 +1,9 @@
-/* Clients of a cache of objects, which belong to the cache: a thread names one, and whoever finds one
- * that is in no call may claim it for a call of its own. No thread waits for another.
+/* Clients of a cache of objects, which belong to the cache: a thread names one, and whoever finds
+ * one that is in no call may claim it for a call of its own. No thread waits for another.
  *
- * A client's thread says that it is in a call by a plain store, and then loads who claims the client.
- * Who claims it stores that, has all threads of the process pass a barrier, and then looks whether the
- * client's thread is in a call. So one of the two sees the other. */
+ * A client's thread says that it is in a call by a plain store, and then loads who claims the
+ * client. Who claims it stores that, has all threads of the process pass a barrier, and then looks
+ * whether the client's thread is in a call. So one of the two sees the other. */
 #define _GNU_SOURCE /* for syscall */
 #include "object.h"
 
@@ -13,13 +13,13 @@
 #include <sys/syscall.h>
 #include <unistd.h>
 
-/* How many clients are claimed in vain before a call goes without, and how many handles one call gives
- * back for others. */
+/* How many clients are claimed in vain before a call goes without, and how many handles one call
+ * gives back for others. */
 enum { TRIES = 4 };
 
 _Thread_local object_thread object_self;
 
-/* ---- Barriers and threads --------------------------------------------------------------------- */
+/* ---- Barriers and threads -------------------------------------------------------------------- */
 
 static long membarrier(int command) {
     return syscall(SYS_membarrier, command, 0, 0);
@@ -47,11 +47,11 @@ static bool has_ended(uint32_t token) {
     return syscall(SYS_tgkill, getpid(), token >> 1, 0) != 0 && errno == ESRCH;
 }
 
-/* ---- Cells ------------------------------------------------------------------------------------ */
+/* ---- Cells ----------------------------------------------------------------------------------- */
 
-/* A cell that no call is in, each in turn; null if there is none. It may be that of a cache which was
- * closed: nothing of that is touched. A thread that loses the cell of a cache finds the client that it
- * names there by its token. */
+/* A cell that no call is in, each in turn; null if there is none. It may be that of a cache which
+ * was closed: nothing of that is touched. A thread that loses the cell of a cache finds the client
+ * that it names there by its token. */
 static object_cell *cell_freed(void) {
     for (uint32_t k = 0; k < CELLS; k++) {
         object_cell *it = &object_self.cell[object_self.turn++ % CELLS];
@@ -78,7 +78,7 @@ object_cell *cell_found(const ferretgold_object_cache *cache) {
     return it;
 }
 
-/* ---- Claims ----------------------------------------------------------------------------------- */
+/* ---- Claims ---------------------------------------------------------------------------------- */
 
 bool client_claimed(object_client *client) {
     uint32_t seen = atomic_load_explicit(&client->claim, memory_order_relaxed);
@@ -122,7 +122,8 @@ static object_client *named_by(ferretgold_object_cache *cache, uint32_t token, u
     return NULL;
 }
 
-/* Claims a client that some thread names, and that is in no call; null if a few tries found none. */
+/* Claims a client that some thread names, and that is in no call; null if a few tries found
+ * none. */
 static object_client *borrowed(ferretgold_object_cache *cache) {
     uint32_t tries = 0;
     for (uint32_t n = 0; n < cache->config.clients && tries < TRIES; n++) {
@@ -149,8 +150,8 @@ static bool has_borrowed(ferretgold_object_cache *cache, object_cell *it) {
     return true;
 }
 
-/* A client that this thread names, and has no cell of, is nobody's: the thread that named it has ended,
- * and this one has its number; or the cell went to another cache. */
+/* A client that this thread names, and has no cell of, is nobody's: the thread that named it has
+ * ended, and this one has its number; or the cell went to another cache. */
 bool client_found(ferretgold_object_cache *cache, object_cell *it) {
     if (it->client == NULL) {
         const uint32_t token = own_token();

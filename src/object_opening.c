@@ -6,7 +6,7 @@
 #include <stdlib.h>
 #include <string.h>
 
-/* ---- Sizes ------------------------------------------------------------------------------------ */
+/* ---- Sizes ----------------------------------------------------------------------------------- */
 
 ferretgold_status ferretgold_object_config_check(const ferretgold_object_config *config) {
     if (config == NULL) {
@@ -29,13 +29,13 @@ uint64_t ferretgold_object_memory(const ferretgold_object_config *config) {
         return 0;
     }
     const uint64_t shards = config->shards, clients = config->clients;
-    const uint64_t table = config->slots * UINT64_C(64) + 32; /* with the ledgers behind the slots */
+    const uint64_t table = config->slots * UINT64_C(64) + 32; /* with the ledgers behind them */
     const uint64_t list = 24 * ((uint64_t)config->gone + config->handles);
     const uint64_t client = 744 + 72 * shards + 112 * (uint64_t)config->handles + list;
     return shards * (176 + taken(table)) + clients * client + 560 + own_memory(config);
 }
 
-/* ---- Opening ---------------------------------------------------------------------------------- */
+/* ---- Opening --------------------------------------------------------------------------------- */
 
 /* Gives up what was made of a cache that isn't opened. */
 static ferretgold_status not_opened(ferretgold_object_cache *it, uint32_t status) {
@@ -139,7 +139,7 @@ ferretgold_status ferretgold_object_owns(ferretgold_object_cache *cache, uint16_
     return FERRETGOLD_OK;
 }
 
-/* ---- Closing ---------------------------------------------------------------------------------- */
+/* ---- Closing --------------------------------------------------------------------------------- */
 
 /* Whether no thread is in a call, as far as this one can see. */
 static bool is_quiet(ferretgold_object_cache *cache) {

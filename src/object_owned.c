@@ -1,5 +1,5 @@
-/* What the checking library knows of objects that a program says it owns once: those that stand in a
- * cache, each once. */
+/* What the checking library knows of objects that a program says it owns once: those that stand in
+ * a cache, each once. */
 #include "object.h"
 
 #include <sched.h>
@@ -75,7 +75,8 @@ void owned_begins(struct owned *it, const void *object, uint16_t kind, const cha
     if (it->is_owned[kind] && object != NULL) {
         const size_t place = place_of(it, object);
         if (it->at[place] != NULL) {
-            (void)fprintf(stderr, "ferretgold: object %p of kind %u stands in the cache already: %s\n",
+            (void)fprintf(stderr,
+                          "ferretgold: object %p of kind %u stands in the cache already: %s\n",
                           object, (unsigned)kind, call);
             abort();
         }

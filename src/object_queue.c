@@ -1,9 +1,9 @@
-/* Handles that other threads than their client's give back: on the client's queue, which whoever is in
- * a call of the client empties. */
+/* Handles that other threads than their client's give back: on the client's queue, which whoever is
+ * in a call of the client empties. */
 #include "object.h"
 
-/* The newest is the first on the queue. Who takes it takes all that is on it by one exchange, so that
- * a record which is found at its front by two loads stands above the same one. */
+/* The newest is the first on the queue. Who takes it takes all that is on it by one exchange, so
+ * that a record which is found at its front by two loads stands above the same one. */
 uint32_t record_pushed(object_client *client, record *it, bool useful, bool erase_if_last) {
     record *head = atomic_load_explicit(&client->queue, memory_order_relaxed);
     uint16_t depth = 0;

@@ -1,7 +1,7 @@
-/* The calls of ferretgold_object.h on one thread: answers and refusals, whose the object is after each,
- * when deleters run and what they may do, and the memory of a cache. tests/c/object_threads.c has what
- * several threads do.
- * Linked with heap.c. Usage: object [OPERATIONS]    of eight threads: 1,000,000 at most and by default
+/* The calls of ferretgold_object.h on one thread: answers and refusals, whose the object is after
+ * each, when deleters run and what they may do, and the memory of a cache. tests/c/object_threads.c
+ * has what several threads do. Linked with heap.c. Usage: object [OPERATIONS]    of eight threads:
+ * 1,000,000 at most and by default
  *                            object owned           ends by the checking library's line */
 #include "object_test.h"
 
@@ -91,7 +91,7 @@ static bool released(ferretgold_object_cache *cache, const ferretgold_object_han
     return freed;
 }
 
-/* ---- Answers ---------------------------------------------------------------------------------- */
+/* ---- Answers --------------------------------------------------------------------------------- */
 
 /* The life of an entry: what a handle shows, and when the deleter gets the object. */
 static void life(void) {
@@ -192,7 +192,7 @@ static void walk(void) {
     EXPECT(ferretgold_object_close(cache), FERRETGOLD_OK);
 }
 
-/* ---- Refusals --------------------------------------------------------------------------------- */
+/* ---- Refusals -------------------------------------------------------------------------------- */
 
 /* Each insertion's arguments, and what refuses them, in this order. */
 static const struct {
@@ -253,7 +253,8 @@ static void null_pointers(void) {
     EXPECT(ferretgold_object_release(cache, NULL, false, false, NULL), FERRETGOLD_NULL);
     EXPECT(ferretgold_object_insert(cache, NULL, NULL, 1, 0, 0, NULL), FERRETGOLD_NULL);
     EXPECT(ferretgold_object_insert(NULL, &key, NULL, 1, 0, 0, NULL), FERRETGOLD_NULL);
-    EXPECT(ferretgold_object_insert_pinned(cache, &key, NULL, 1, 0, 0, NULL, NULL), FERRETGOLD_NULL);
+    EXPECT(ferretgold_object_insert_pinned(cache, &key, NULL, 1, 0, 0, NULL, NULL),
+           FERRETGOLD_NULL);
     EXPECT(ferretgold_object_erase(cache, NULL, NULL), FERRETGOLD_NULL);
     EXPECT(ferretgold_object_memory(NULL), 0);
     EXPECT(ferretgold_object_close(cache), FERRETGOLD_OK);
@@ -380,7 +381,7 @@ static void long_evictions(void) {
     EXPECT(log.count, 12);
 }
 
-/* ---- Deleters that call the cache ------------------------------------------------------------- */
+/* ---- Deleters that call the cache ------------------------------------------------------------ */
 
 typedef struct chain {
     ferretgold_object_cache *cache;
@@ -456,13 +457,15 @@ static void coming_back(void) {
     EXPECT(it.put == FERRETGOLD_DROPPED && it.closed == FERRETGOLD_CLIENTS_OUT, true);
 }
 
-/* ---- Memory ----------------------------------------------------------------------------------- */
+/* ---- Memory ---------------------------------------------------------------------------------- */
 
-/* What is allocated is what ferretgold_object_memory says; an opening that is refused leaves nothing. */
+/* What is allocated is what ferretgold_object_memory says; an opening that is refused leaves
+ * nothing. */
 static void memory(void) {
     const struct {
         uint32_t slots, clients, handles, gone, shards;
-    } all[] = {{8, 1, 1, 4, 1}, {64, 65, 3, 7, 2}, {65536, 2, 5, 256, 1}, {1024, 3, 16384, 65536, 4}};
+    } all[] = {{8, 1, 1, 4, 1}, {64, 65, 3, 7, 2}, {65536, 2, 5, 256, 1},
+               {1024, 3, 16384, 65536, 4}};
     for (size_t k = 0; k < sizeof all / sizeof *all; k++) {
         ferretgold_object_config config = small_cache();
         config.slots = all[k].slots;

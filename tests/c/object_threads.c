@@ -1,6 +1,6 @@
-/* What several threads do with a cache of objects: handles that another thread gives back, threads that
- * end or sleep, more threads than clients, caches that are closed under living threads; and eight threads
- * at once, whose objects know whether they are inserted and held. */
+/* What several threads do with a cache of objects: handles that another thread gives back, threads
+ * that end or sleep, more threads than clients, caches that are closed under living threads; and
+ * eight threads at once, whose objects know whether they are inserted and held. */
 #define _XOPEN_SOURCE 600 /* for barriers */
 #include "object_test.h"
 
@@ -8,7 +8,8 @@
 #include <semaphore.h>
 
 enum { ROUNDS = 4, MOST_OPERATIONS = 1000000 };
-enum { MANY = 70, FEW = 64, CACHES = 100, LIVING = 4, THREADS = 8, MAIL = 16, HELD = 8, KEYS = 200 };
+enum { MANY = 70, FEW = 64, CACHES = 100, LIVING = 4, THREADS = 8, MAIL = 16, HELD = 8 };
+enum { KEYS = 200 };
 
 static ferretgold_key key_of(uint64_t number) {
     return (ferretgold_key){number, 5};
@@ -54,7 +55,7 @@ static bool released(ferretgold_object_cache *cache, const ferretgold_object_han
     return freed;
 }
 
-/* ---- Another thread, which does what it is asked to ------------------------------------------- */
+/* ---- Another thread, which does what it is asked to ------------------------------------------ */
 
 typedef struct other {
     ferretgold_object_cache *cache;
@@ -130,8 +131,8 @@ static void *hold_many(void *argument) {
     return NULL;
 }
 
-/* What waits on the queue of a thread that sleeps, or has ended, is given back: once there are more than
- * a few, and where somebody collects, walks or closes. */
+/* What waits on the queue of a thread that sleeps, or has ended, is given back: once there are more
+ * than a few, and where somebody collects, walks or closes. */
 static void sleeping(bool ends) {
     atomic_ulong deleted = 0;
     static other it;
@@ -190,7 +191,7 @@ static void ending(void) {
     EXPECT(ferretgold_object_close(cache), FERRETGOLD_OK);
 }
 
-/* ---- No client to be had ---------------------------------------------------------------------- */
+/* ---- No client to be had --------------------------------------------------------------------- */
 
 /* Waits within the call. */
 static void delete_slowly(void *context, const ferretgold_key *key, void *object, uint16_t kind) {
@@ -232,7 +233,7 @@ static void nowhere(void) {
     EXPECT(ferretgold_object_close(cache), FERRETGOLD_OK);
 }
 
-/* ---- Caches that come and go under threads that live ------------------------------------------ */
+/* ---- Caches that come and go under threads that live ----------------------------------------- */
 
 static ferretgold_object_cache *caches[CACHES];
 static pthread_barrier_t meeting;
@@ -292,7 +293,7 @@ static void coming_and_going(void) {
     EXPECT(pthread_barrier_destroy(&meeting), 0);
 }
 
-/* ---- Eight threads at once -------------------------------------------------------------------- */
+/* ---- Eight threads at once ------------------------------------------------------------------- */
 
 /* Where an object is: the caller's before it is inserted, and again where it isn't placed. */
 enum { OWN, INSERTED, BACK, CANARY = 0x5a17 };
@@ -336,7 +337,8 @@ static bool is_as_inserted(const object *one, const ferretgold_key *key, uint16_
 static void keep(worker *it, const ferretgold_object_handle *handle) {
     object *one = handle->object;
     atomic_fetch_add(&one->held, 1);
-    it->wrong += !is_as_inserted(one, &handle->key, handle->kind) || handle->charge != 1 + handle->key.w0 % 8;
+    it->wrong += !is_as_inserted(one, &handle->key, handle->kind);
+    it->wrong += handle->charge != 1 + handle->key.w0 % 8;
     it->handles[it->holds] = handle;
     it->holds += 1;
 }
@@ -378,16 +380,16 @@ static bool insert_next(worker *it) {
     const bool pinned = it->holds < HELD && drawn(it, 4) == 0;
     const ferretgold_priority priority = (ferretgold_priority)drawn(it, 3);
     const uint32_t charge = 1 + (uint32_t)(key.w0 % 8);
+    const uint16_t kind = (uint16_t)(3 * key.w0);
     const ferretgold_object_handle *handle = NULL;
     ferretgold_inserted inserted = FERRETGOLD_DROPPED;
     atomic_store(&one->key, (uint16_t)key.w0);
     atomic_store(&one->canary, (uint16_t)(CANARY ^ key.w0));
     atomic_store(&one->state, INSERTED);
     const ferretgold_status status =
-        pinned ? ferretgold_object_insert_pinned(it->cache, &key, one, (uint16_t)(3 * key.w0), charge,
-                                                 priority, &inserted, &handle)
-               : ferretgold_object_insert(it->cache, &key, one, (uint16_t)(3 * key.w0), charge,
-                                          priority, &inserted);
+        pinned ? ferretgold_object_insert_pinned(it->cache, &key, one, kind, charge, priority,
+                                                 &inserted, &handle)
+               : ferretgold_object_insert(it->cache, &key, one, kind, charge, priority, &inserted);
     if (status != FERRETGOLD_OK || inserted == FERRETGOLD_DROPPED) {
         it->wrong += atomic_exchange(&one->state, OWN) != INSERTED;
         return false;
@@ -455,7 +457,8 @@ static void walk_some(worker *it) {
     uint32_t slot = (uint32_t)drawn(it, 130);
     for (unsigned k = 0; k < 8 && it->holds < HELD; k++, slot++) {
         const ferretgold_object_handle *handle = NULL;
-        if (ferretgold_object_pin_at(it->cache, (uint32_t)drawn(it, 2), slot, &handle) == FERRETGOLD_OK) {
+        const uint32_t shard = (uint32_t)drawn(it, 2);
+        if (ferretgold_object_pin_at(it->cache, shard, slot, &handle) == FERRETGOLD_OK) {
             keep(it, handle);
         }
     }
