@@ -60,7 +60,7 @@
  * HANDLES
  *   A handle is a pointer to what it shows, which any thread may read until it is given back. Any
  *   thread may give it back. One that did not get it leaves it on a queue of its client; that gives
- *   it back at a later call, a few at a time, or whoever finds more than 64 there, walks
+ *   it back at a later call, a few at a time, or whoever finds 64 there, walks
  *   (ferretgold_object_pin_at of the first slot), collects or closes does, if the client is in no
  *   call. Until then its entry stays held. A handle that was given back is refused by NO_HANDLE at
  *   best: its place is used again, and then it is another handle.

@@ -45,6 +45,12 @@ lends() {
     builds tests/c/pool.c $out/libferretgold.a && runs "$1" 400000
 }
 
+# Makes the calls of ferretgold_object.h.
+objects() {
+    builds tests/c/{object,object_threads,heap}.c $out/libferretgold.a \
+        -Wl,--wrap=malloc,--wrap=realloc,--wrap=aligned_alloc,--wrap=free && runs 100000
+}
+
 # The checking library ends a program in which two calls meet in one client.
 meets() {
     $compiler -std=c11 -DFERRETGOLD_CHECK -Iinclude tests/c/entered.c "$out/libferretgold_check.a" -Wl,--wrap=malloc \
@@ -70,5 +76,6 @@ tries "traces, checked" plays libferretgold_check.a -DFERRETGOLD_CHECK
 for clients in 3 70; do
     tries "threads borrow $clients clients" lends $clients
 done
+tries "the header for objects" objects
 tries "two calls in one client, checked" meets
 counted arm

@@ -30,7 +30,10 @@ static void texts(void) {
         {36, "all clients of the cache are out, or this one was given back"},
         {37, "the client is one of another cache"},
         {38, "the client holds handles"}, {39, "clients of the cache are out"},
-        {40, "the library doesn't know this size of configuration"}, {2, "unknown"}};
+        {40, "the library doesn't know this size of configuration"},
+        {41, "the client's list is full"}, {42, "the object's address is 2^48 or above"},
+        {43, "gone must be 4 to 65,536"}, {44, "objects weren't taken off a list"}, {2, "unknown"},
+        {45, "unknown"}};
     for (size_t k = 0; k < sizeof all / sizeof *all; k++) {
         EXPECT(strcmp(ferretgold_status_text((ferretgold_status)all[k].status), all[k].text), 0);
     }

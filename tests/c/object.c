@@ -523,6 +523,8 @@ static void object_rows(void) {
     EXPECT(ferretgold_object_config_of(cache, &same), FERRETGOLD_OK);
     EXPECT(memcmp(&config, &same, sizeof config), 0);
     EXPECT(ferretgold_object_close(cache), FERRETGOLD_OK);
+    config = (ferretgold_object_config)FERRETGOLD_OBJECT_CONFIG;
+    EXPECT(ferretgold_object_config_check(&config), FERRETGOLD_OK);
 }
 
 /* The checking library ends the program at the second insertion of an object that stands. */

@@ -34,8 +34,8 @@ FILES = ["include/ferretgold.h", "include/ferretgold_inline.h", "include/ferretg
 APART = {"src/large.c", *SAVES}  # what no trace shows
 CALLS = {"include/ferretgold_inline.h", "src/ferretgold.c"}  # where the checking library differs
 HEADERS = ["include/ferretgold_raw.h", "include/ferretgold_closed.h", "include/ferretgold_large.h",
-           "include/ferretgold_file.h", "include/ferretgold_image.h", "src/closed.h", "src/heap.h", "src/large.h",
-           "src/limits.h", "src/opening.h"]
+           "include/ferretgold_object.h", "include/ferretgold_file.h", "include/ferretgold_image.h",
+           "src/closed.h", "src/heap.h", "src/large.h", "src/limits.h", "src/opening.h"]
 CHANCE = "by chance: "
 PLAYS = ["tests/c/play.c", "tests/c/edges.c", "tests/c/closed.c", "tests/c/image.c"]
 CPP = ["tests/c/play.cpp", "tests/c/closed.cpp"]

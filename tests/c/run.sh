@@ -55,6 +55,11 @@ objects() {
     builds_counting "$2" cc -std=c11 "${@:3}" tests/c/object.c tests/c/object_threads.c && "$folder/built" "$1"
 }
 
+# The header for objects is one of C99 and of C++11, too: is_plain WORD..
+is_plain() {
+    echo '#include "ferretgold_object.h"' | "$@" -Wall -Wextra -Wpedantic -Werror -Iinclude -fsyntax-only -
+}
+
 # The checking library ends a program that inserts an object which is to stand once, and does.
 owns() {
     objects 100000 src/out/libferretgold_check.a -O2 -DFERRETGOLD_CHECK \
@@ -156,6 +161,7 @@ if command -v cc > /dev/null; then
     tries "threads hand objects back" hands 15000000 "$library" -O2
     tries "the header for objects" objects 1000000 "$library" -O2
     tries "the header for objects, checked" owns
+    tries "the header for objects in C99" is_plain cc -std=c99 -x c
     tries "two threads in one client, checked" meets
     tries "each function of the header is a symbol of the library" exports
     tries "C with memory refused" bears_refusals
@@ -183,6 +189,7 @@ if command -v c++ > /dev/null; then
     tries "C++" prints "$in_cpp" run-cpp CXX=c++
     tries "traces in C++" plays src/out/libferretgold.a "${traces[@]}" -O2
     tries "C++ without exceptions" runs "${bare[@]}" src/out/libferretgold.a
+    tries "the header for objects in C++11" is_plain c++ -std=c++11 -x c++
     if sanitizes c c++; then
         tries "C++, sanitized" prints "$in_cpp" run-cpp CXX=c++ SANITIZE=address,undefined \
             LIBRARY="$library"
