@@ -37,6 +37,7 @@ typedef struct object_client {
     atomic_uint claim;              /* the thread that names it, and whether somebody claims it */
     atomic_bool inside;             /* its thread is in a call: written by that thread */
     bool untaken;                   /* something may be on the proved list */
+    atomic_bool used;               /* what the checking library knows of it */
     uint32_t number;
     _Alignas(LINE) _Atomic(record *) queue; /* of what other threads gave back */
 } object_client;
@@ -126,7 +127,26 @@ void owned_kind(struct owned *it, uint16_t kind);
 void owned_begins(struct owned *it, const void *object, uint16_t kind, const char *call);
 void owned_ends(struct owned *it, const void *object, uint16_t kind);
 void owned_freed(struct owned *it);
+/* A client is used: the program ends if it is already. */
+void owned_use(atomic_bool *used, uint32_t number);
 #endif
+
+/* ---- What the checking library looks at in clients -------------------------------------------- */
+
+/* A call begins to use a client: the program ends if another one does. */
+static inline void client_used(object_client *client) {
+#ifdef FERRETGOLD_CHECK
+    owned_use(&client->used, client->number);
+#endif
+    (void)client;
+}
+
+static inline void client_unused(object_client *client) {
+#ifdef FERRETGOLD_CHECK
+    atomic_store(&client->used, false);
+#endif
+    (void)client;
+}
 
 /* ---- Entering a cache and leaving it --------------------------------------------------------- */
 
@@ -145,10 +165,12 @@ static inline bool client_entered(object_client *client) {
         atomic_store_explicit(&client->inside, false, memory_order_release);
         return false;
     }
+    client_used(client);
     return true;
 }
 
 static inline void client_left(object_client *client) {
+    client_unused(client);
     atomic_store_explicit(&client->inside, false, memory_order_release);
 }
 

@@ -80,6 +80,11 @@ object_cell *cell_found(const ferretgold_object_cache *cache) {
 
 /* ---- Claims ---------------------------------------------------------------------------------- */
 
+static void unclaim(object_client *client) {
+    const uint32_t seen = atomic_load_explicit(&client->claim, memory_order_relaxed);
+    atomic_store(&client->claim, seen & ~(uint32_t)CLAIMED);
+}
+
 bool client_claimed(object_client *client) {
     uint32_t seen = atomic_load_explicit(&client->claim, memory_order_relaxed);
     if ((seen & CLAIMED) != 0 || atomic_load_explicit(&client->inside, memory_order_relaxed)) {
@@ -90,15 +95,16 @@ bool client_claimed(object_client *client) {
     }
     if (seen == NOBODY
         || ((all_fenced() || has_ended(seen)) && !atomic_load(&client->inside))) {
+        client_used(client);
         return true;
     }
-    client_unclaimed(client);
+    unclaim(client);
     return false;
 }
 
 void client_unclaimed(object_client *client) {
-    const uint32_t seen = atomic_load_explicit(&client->claim, memory_order_relaxed);
-    atomic_store(&client->claim, seen & ~(uint32_t)CLAIMED);
+    client_unused(client);
+    unclaim(client);
 }
 
 /* A thread names a client that it has claimed, and is in a call of it. */
@@ -116,6 +122,7 @@ static object_client *named_by(ferretgold_object_cache *cache, uint32_t token, u
         uint32_t seen = token;
         if (atomic_load_explicit(&client->claim, memory_order_relaxed) == seen
             && atomic_compare_exchange_strong(&client->claim, &seen, seen | CLAIMED)) {
+            client_used(client);
             return client;
         }
     }
@@ -171,7 +178,7 @@ bool client_found(ferretgold_object_cache *cache, object_cell *it) {
  * thread's, until that ends. */
 static void give_up(object_client *client) {
     uint32_t token = object_self.token;
-    atomic_store(&client->inside, false);
+    client_left(client);
     (void)atomic_compare_exchange_strong(&client->claim, &token, NOBODY);
 }
 
@@ -188,7 +195,7 @@ bool client_changed(ferretgold_object_cache *cache, object_cell *it) {
         return false;
     }
     if (is_own) {
-        atomic_store(&full->inside, false);
+        client_left(full);
     } else {
         client_unclaimed(full);
     }

@@ -27,9 +27,10 @@ struct owned *owned_made(const ferretgold_object_config *config) {
     while (places < 2 * most_standing(config)) {
         places *= 2;
     }
-    struct owned *it = malloc(sizeof *it + places * sizeof it->at[0]);
+    const size_t size = sizeof(struct owned) + places * sizeof(void *);
+    struct owned *it = aligned_alloc(_Alignof(struct owned), size);
     if (it != NULL) {
-        memset(it, 0, sizeof *it + places * sizeof it->at[0]);
+        memset(it, 0, size);
         it->places = places;
     }
     return it;
@@ -62,6 +63,13 @@ static size_t place_of(const struct owned *it, const void *object) {
         place = (place + 1) & (it->places - 1);
     }
     return place;
+}
+
+void owned_use(atomic_bool *used, uint32_t number) {
+    if (atomic_exchange(used, true)) {
+        (void)fprintf(stderr, "ferretgold: two threads use client %u at once\n", (unsigned)number);
+        abort();
+    }
 }
 
 void owned_kind(struct owned *it, uint16_t kind) {

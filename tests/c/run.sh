@@ -60,9 +60,10 @@ is_plain() {
     echo '#include "ferretgold_object.h"' | "$@" -Wall -Wextra -Wpedantic -Werror -Iinclude -fsyntax-only -
 }
 
-# The checking library ends a program that inserts an object which is to stand once, and does.
+# The checking library sees no two threads in one client, and ends a program that inserts an object which
+# is to stand once, and does.
 owns() {
-    objects 100000 src/out/libferretgold_check.a -O2 -DFERRETGOLD_CHECK \
+    objects 1000000 src/out/libferretgold_check.a -O2 -DFERRETGOLD_CHECK \
         && ! "$folder/built" owned > "$folder/met" 2>&1 \
         && grep -qE '^ferretgold: object 0x[0-9a-f]+ of kind 3 stands in the cache already: ferretgold_object_insert$' \
             "$folder/met" && [[ $(wc -l < "$folder/met") == 1 ]]
