@@ -135,7 +135,8 @@ typedef struct ferretgold_object_cache ferretgold_object_cache;
 
 /*
  * How many bytes a cache of this configuration allocates:
- *     shards * (272 + slots * 64) + 752 + clients * (872 + 72 * shards + 200 * handles + 24 * gone)
+ *     shards * (272 + slots * 64) + 6384
+ *     + clients * (1000 + 72 * shards + 192 * handles + 24 * gone)
  * A shard's table is rounded up as ferretgold_memory says. The checking library takes more. 0 if
  * `config` is null.
  */
