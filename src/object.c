@@ -83,8 +83,9 @@ static inline object_cell *enter(ferretgold_object_cache *cache) {
         return NULL;
     }
     it->depth = 1;
+    it->ready = NULL;
     if (RARELY(has_returned(it->in_use))) {
-        give_back_some(it->in_use);
+        (it->in_use == it->client ? give_back_some : give_back_all)(it->in_use);
     }
     return it;
 }
@@ -99,21 +100,25 @@ static object_cell *enter_own(object_client *client) {
         return NULL;
     }
     it->depth = 1;
+    it->ready = NULL;
     if (has_returned(client)) {
         give_back_some(client);
     }
     return it;
 }
 
-/* Begins a call on the thread's own client that runs no deleter, where nothing else is to be done:
- * null in all other cases. */
+/* Begins a call on the thread's own client that runs no deleter, where nothing else is to be done: null
+ * in all other cases. */
 static inline object_client *enter_plainly(const ferretgold_object_cache *cache) {
-    const object_cell *it = &object_self.cell[cache->home];
-    if (RARELY(it->life != cache->life || it->depth > 0 || it->client == NULL)) {
+    const object_cell *it = cell_at_home(cache);
+    object_client *client = it->ready;
+    if (RARELY(it->life != cache->life || client == NULL)) {
         return NULL;
     }
-    object_client *client = it->client;
-    return RARELY(has_returned(client) || !client_entered(client)) ? NULL : client;
+    if (RARELY(atomic_load_explicit(&client->queue, memory_order_relaxed) != NULL)) {
+        return NULL;
+    }
+    return RARELY(!client_entered(client)) ? NULL : client;
 }
 
 /* Ends a call: the first of a thread runs the deleters of what was freed. */
@@ -131,6 +136,7 @@ static inline ferretgold_status leave(object_cell *it, uint32_t status) {
     } else {
         client_unclaimed(it->in_use);
     }
+    it->ready = it->client != NULL && !has_backlog(it->client) ? it->client : NULL;
     return (ferretgold_status)status;
 }
 
@@ -162,6 +168,7 @@ static void relieve(object_cell *it, object_client *client) {
     }
     it->in_use = client;
     it->depth = 1;
+    it->ready = NULL;
     give_back_all(client);
     (void)leave(it, FERRETGOLD_OK);
 }
@@ -186,7 +193,7 @@ static inline const ferretgold_object_handle *shown(object_client *client,
     it->shows.key = *key;
     it->shows.charge = (uint32_t)charge;
     it->shows.kind = value->kind;
-    it->handle = *handle;
+    it->handle.serial = handle->serial;
     atomic_store_explicit(&it->references, 1, memory_order_relaxed);
     return &it->shows;
 }
@@ -196,13 +203,14 @@ static inline uint32_t looked_up(object_client *client, const ferretgold_key *ke
                                  const ferretgold_object_handle **handle) {
     ferretgold_handle found;
     ferretgold_object_value value;
+    uint64_t charge;
     const uint32_t status = ferretgold_raw_object_lookup(&client->session, key, &found, &value);
-    if (status == FERRETGOLD_OK) {
-        uint64_t charge = 0;
-        (void)ferretgold_raw_object_charge(&client->session, &found, &charge);
-        *handle = shown(client, &found, key, &value, charge);
+    if (status != FERRETGOLD_OK) {
+        return status;
     }
-    return status;
+    (void)ferretgold_raw_object_charge(&client->session, &found, &charge);
+    *handle = shown(client, &found, key, &value, charge);
+    return FERRETGOLD_OK;
 }
 
 /* The same where more is to be done than that. */
@@ -223,7 +231,7 @@ SLOWLY static ferretgold_status looked_up_slowly(ferretgold_object_cache *cache,
 ferretgold_status ferretgold_object_lookup(ferretgold_object_cache *cache,
                                            const ferretgold_key *key,
                                            const ferretgold_object_handle **handle) {
-    if (cache == NULL || key == NULL || handle == NULL) {
+    if (RARELY(cache == NULL) || RARELY(key == NULL) || RARELY(handle == NULL)) {
         return FERRETGOLD_NULL;
     }
     object_client *client = enter_plainly(cache);
@@ -232,7 +240,7 @@ ferretgold_status ferretgold_object_lookup(ferretgold_object_cache *cache,
     }
     const uint32_t status = looked_up(client, key, handle);
     client_left(client);
-    return RARELY(status > FERRETGOLD_MISS) ? looked_up_slowly(cache, key, handle)
+    return RARELY(status > FERRETGOLD_MISS) ? looked_up_slowly(client->cache, key, handle)
                                             : (ferretgold_status)status;
 }
 
@@ -303,6 +311,7 @@ SLOWLY static ferretgold_status left_with_deleters(object_client *client, uint32
     object_cell *it = cell_of(client->cache);
     it->in_use = client;
     it->depth = 1;
+    it->ready = NULL;
     client->untaken = true;
     return leave(it, status);
 }

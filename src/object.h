@@ -48,7 +48,7 @@ enum { NOBODY = 0, CLAIMED = 1 };
 
 struct ferretgold_object_cache {
     _Alignas(LINE) uint64_t life; /* a number that no other cache of the process has */
-    uint32_t home;                /* where threads look for it first */
+    uint32_t home;                /* where among a thread's cells it is looked for first, in bytes */
     uint32_t number;              /* the proved cache's, which its handles have */
     object_client *client;
     ferretgold_deleter *deleter;
@@ -63,6 +63,7 @@ struct ferretgold_object_cache {
 typedef struct object_cell {
     uint64_t life;         /* of the cache; 0 if this cell is free */
     object_client *client; /* that the thread names; null if it names none */
+    object_client *ready;  /* the same between calls, if it has no backlog; else null */
     object_client *in_use; /* by its call */
     uint32_t depth;        /* how many calls it is in: more than one from a deleter */
 } object_cell;
@@ -151,9 +152,12 @@ static inline void client_unused(object_client *client) {
 /* ---- Entering a cache and leaving it --------------------------------------------------------- */
 
 /* Whether something waits to be given back. */
+static inline bool has_backlog(object_client *client) {
+    return atomic_load_explicit(&client->backlog, memory_order_relaxed) != NULL;
+}
+
 static inline bool has_returned(object_client *client) {
-    return atomic_load_explicit(&client->queue, memory_order_relaxed) != NULL
-           || atomic_load_explicit(&client->backlog, memory_order_relaxed) != NULL;
+    return has_backlog(client) || atomic_load_explicit(&client->queue, memory_order_relaxed) != NULL;
 }
 
 /* A thread begins to use the client that it names, unless that is claimed. Who claims it makes all
@@ -180,8 +184,12 @@ static inline bool own_entered(object_cell *it) {
     return client_entered(it->client);
 }
 
+static inline object_cell *cell_at_home(const ferretgold_object_cache *cache) {
+    return (object_cell *)(void *)((char *)object_self.cell + cache->home);
+}
+
 static inline object_cell *cell_of(const ferretgold_object_cache *cache) {
-    object_cell *it = &object_self.cell[cache->home];
+    object_cell *it = cell_at_home(cache);
     return RARELY(it->life != cache->life) ? cell_found(cache) : it;
 }
 

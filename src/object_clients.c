@@ -68,12 +68,12 @@ object_cell *cell_found(const ferretgold_object_cache *cache) {
             return &object_self.cell[k];
         }
     }
-    object_cell *it = &object_self.cell[cache->home];
+    object_cell *it = cell_at_home(cache);
     if (it->life != 0) {
         it = cell_freed();
     }
     if (it != NULL) {
-        *it = (object_cell){cache->life, NULL, NULL, 0};
+        *it = (object_cell){cache->life, NULL, NULL, NULL, 0};
     }
     return it;
 }

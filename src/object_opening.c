@@ -61,7 +61,7 @@ static ferretgold_object_cache *made(const ferretgold_object_config *config) {
     memset(it, 0, size);
     it->config = *config;
     it->life = atomic_fetch_add(&lives, 1) + 1;
-    it->home = (uint32_t)(it->life % CELLS);
+    it->home = (uint32_t)(it->life % CELLS * sizeof(object_cell));
     it->client = (object_client *)(void *)(it + 1);
     record *records = (record *)(void *)&it->client[config->clients];
     for (uint32_t number = 0; number < config->clients; number++) {
@@ -69,6 +69,10 @@ static ferretgold_object_cache *made(const ferretgold_object_config *config) {
         client->cache = it;
         client->number = number;
         client->records = &records[(size_t)number * config->handles];
+        for (uint32_t k = 0; k < config->handles; k++) {
+            client->records[k].handle.index = k;
+            client->records[k].handle.client = number;
+        }
     }
     return it;
 }
@@ -84,6 +88,9 @@ static uint32_t opened(ferretgold_object_cache *it) {
     }
     for (uint32_t number = 0; number < count; number++) {
         it->client[number].session = session[number];
+        for (uint32_t k = 0; k < it->config.handles; k++) {
+            it->client[number].records[k].handle.cache = it->number;
+        }
     }
     return status;
 }
