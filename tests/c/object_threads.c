@@ -521,7 +521,7 @@ static void finish(worker *sum, object *objects, size_t many) {
     EXPECT(sum->back, 0);
 }
 
-static void at_once(uint32_t clients, bool strict, unsigned long operations) {
+static void at_once(uint32_t clients, uint32_t handles, bool strict, unsigned long operations) {
     static worker workers[THREADS];
     static worker sum;
     const size_t each = operations / ROUNDS / THREADS;
@@ -532,7 +532,7 @@ static void at_once(uint32_t clients, bool strict, unsigned long operations) {
     config.slots = 128;
     config.shards = 2;
     config.clients = clients;
-    config.handles = 16;
+    config.handles = handles;
     config.capacity = 400;
     config.strict = strict;
     sum = (worker){.cache = opened(&config, delete_one, NULL), .state = 9};
@@ -551,9 +551,9 @@ static void at_once(uint32_t clients, bool strict, unsigned long operations) {
     finish(&sum, objects, each * THREADS);
     EXPECT(heap_blocks, blocks);
     EXPECT(sum.elsewhere > 0 && sum.refused > 0 && sum.alone > 0, true);
-    printf("object: %u clients, strict %d: %lu were the cache's, %lu of them stood alone, %lu were "
-           "refused, %lu handles given back elsewhere\n", clients, strict, sum.inserted, sum.alone,
-           sum.refused, sum.elsewhere);
+    printf("object: %u clients of %u handles, strict %d: %lu were the cache's, %lu of them stood "
+           "alone, %lu were refused, %lu handles given back elsewhere\n", clients, handles, strict,
+           sum.inserted, sum.alone, sum.refused, sum.elsewhere);
 }
 
 void object_threads(unsigned long operations) {
@@ -563,8 +563,8 @@ void object_threads(unsigned long operations) {
     ending();
     nowhere();
     coming_and_going();
-    for (unsigned strict = 0; strict < 2; strict++) {
-        at_once(THREADS + 1, strict == 1, operations);
-        at_once(3, strict == 1, operations);
-    }
+    at_once(THREADS + 1, 2 * HELD, false, operations);
+    at_once(3, 2 * HELD, true, operations);
+    at_once(3 * THREADS, 2, false, operations); /* threads change their clients */
+    at_once(THREADS - 1, 3, true, operations);
 }
