@@ -54,7 +54,8 @@
  *   cache is closed, leaves nothing behind.
  *   - No thread waits for another. Where there are more threads than clients, a call works through
  *     a client that is in no call just then, which costs a system call (membarrier). If it finds
- *     none, a look-up misses, `insert` drops, and what else needs a client refuses by NO_CLIENT.
+ *     none, a look-up misses, `insert` drops, and what else needs a client refuses by NO_CLIENT: so
+ *     will most calls, where many more threads run than there are clients.
  *   - A client with no handle left to give, or no serial, is changed for another.
  *
  * HANDLES
@@ -62,8 +63,8 @@
  *   thread may give it back. One that did not get it leaves it on a queue of its client; that gives
  *   it back at a later call, a few at a time, or whoever finds 64 there, walks
  *   (ferretgold_object_pin_at of the first slot), collects or closes does, if the client is in no
- *   call. Until then its entry stays held. A handle that was given back is refused by NO_HANDLE at
- *   best: its place is used again, and then it is another handle.
+ *   call. Until then its entry stays held. A handle that was given back is refused by NO_HANDLE
+ *   only until its place is used again: from then on it is another handle.
  *
  * COSTS
  *   Calls allocate nothing, except opening. A look-up and a release cost what the proved calls do,
@@ -125,8 +126,8 @@ typedef struct ferretgold_object_handle {
 } ferretgold_object_handle;
 
 /* Deletes an object: `context` is what the cache was opened with. */
-typedef void ferretgold_deleter(void *context, const ferretgold_key *key, void *object,
-                                uint16_t kind);
+typedef void (*ferretgold_deleter)(void *context, const ferretgold_key *key, void *object,
+                                   uint16_t kind);
 
 /* A cache of objects. */
 typedef struct ferretgold_object_cache ferretgold_object_cache;
@@ -157,7 +158,7 @@ ferretgold_status ferretgold_object_config_check(const ferretgold_object_config 
  * BAD_GONE, then OUT_OF_MEMORY. Nothing remains then.
  */
 ferretgold_status ferretgold_object_open(const ferretgold_object_config *config,
-                                         ferretgold_deleter *deleter, void *context,
+                                         ferretgold_deleter deleter, void *context,
                                          ferretgold_object_cache **cache);
 
 /* The configuration that a cache was opened with. */

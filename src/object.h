@@ -51,7 +51,7 @@ struct ferretgold_object_cache {
     uint32_t home;                /* where among a thread's cells it is looked for first, in bytes */
     uint32_t number;              /* the proved cache's, which its handles have */
     object_client *client;
-    ferretgold_deleter *deleter;
+    ferretgold_deleter deleter;
     void *context;
     ferretgold_object_config config;
     ferretgold_object cache; /* the proved library's */

@@ -96,7 +96,7 @@ static uint32_t opened(ferretgold_object_cache *it) {
 }
 
 ferretgold_status ferretgold_object_open(const ferretgold_object_config *config,
-                                         ferretgold_deleter *deleter, void *context,
+                                         ferretgold_deleter deleter, void *context,
                                          ferretgold_object_cache **cache) {
     if (config == NULL || deleter == NULL || cache == NULL) {
         return FERRETGOLD_NULL;

@@ -53,7 +53,7 @@ static void note(void *context, const ferretgold_key *key, void *object, uint16_
 }
 
 static ferretgold_object_cache *opened(const ferretgold_object_config *config,
-                                       ferretgold_deleter *deleter, void *context) {
+                                       ferretgold_deleter deleter, void *context) {
     ferretgold_object_cache *cache = NULL;
     EXPECT(ferretgold_object_open(config, deleter, context, &cache), FERRETGOLD_OK);
     return cache;
