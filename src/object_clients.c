@@ -129,6 +129,17 @@ static object_client *named_by(ferretgold_object_cache *cache, uint32_t token, u
     return NULL;
 }
 
+/* Whether this token names a client, which somebody else has claimed. */
+static bool has_named(ferretgold_object_cache *cache, uint32_t token) {
+    for (uint32_t n = 0; n < cache->config.clients; n++) {
+        if (atomic_load_explicit(&cache->client[n].claim, memory_order_relaxed)
+            == (token | CLAIMED)) {
+            return true;
+        }
+    }
+    return false;
+}
+
 /* Claims a client that some thread names, and that is in no call; null if a few tries found
  * none. */
 static object_client *borrowed(ferretgold_object_cache *cache) {
@@ -163,7 +174,7 @@ bool client_found(ferretgold_object_cache *cache, object_cell *it) {
     if (it->client == NULL) {
         const uint32_t token = own_token();
         object_client *client = named_by(cache, token, token >> 1);
-        if (client == NULL) {
+        if (client == NULL && !has_named(cache, token)) {
             client = named_by(cache, NOBODY, token >> 1);
         }
         if (client != NULL) {
