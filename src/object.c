@@ -2,11 +2,6 @@
  * of the calling thread, fills the record that a handle points to, and runs deleters once it is
  * over. It is tested, not proved. */
 #include "object.h"
-#include "limits.h"
-#include "opening.h"
-
-#include <stdlib.h>
-#include <string.h>
 
 enum {
     SOME = 4,       /* how many handles of its queue a call gives back */
@@ -22,7 +17,6 @@ enum {
 #ifndef FERRETGOLD_CHECK
 #define owned_begins(owned, object, kind, call) ((void)0)
 #define owned_ends(owned, object, kind) ((void)0)
-#define owned_freed(owned) ((void)0)
 #endif
 
 /* ---- Deleters -------------------------------------------------------------------------------- */
@@ -107,8 +101,8 @@ static object_cell *enter_own(object_client *client) {
     return it;
 }
 
-/* Begins a call on the thread's own client that runs no deleter, where nothing else is to be done: null
- * in all other cases. */
+/* Begins a call on the thread's own client that runs no deleter, where nothing else is to be done:
+ * null in all other cases. */
 static inline object_client *enter_plainly(const ferretgold_object_cache *cache) {
     const object_cell *it = cell_at_home(cache);
     object_client *client = it->ready;
@@ -371,7 +365,7 @@ typedef struct insertion {
     ferretgold_handle handle;
 } insertion;
 
-/* One try. Whether the client's list was full. */
+/* One try, by one client. */
 static uint32_t insert_once(object_client *client, insertion *it, bool *list_full) {
     client->untaken = true;
     *list_full = false;
@@ -410,7 +404,7 @@ static uint32_t insert_tries(object_cell *cell, insertion *it) {
     }
 }
 
-/* What an insertion comes to for which no client is to be had. */
+/* What an insertion comes to for which no client is to be had: there is no record for a handle. */
 static uint32_t insert_nowhere(insertion *it) {
     if (it->priority >= PRIORITIES) {
         return FERRETGOLD_BAD_PRIORITY;

@@ -9,7 +9,7 @@
 
 #include <stdatomic.h>
 
-/* What is laid out of the usual way. */
+/* Conditions and functions off the usual way. */
 #define RARELY(what) __builtin_expect(!!(what), 0)
 #define SLOWLY __attribute__((noinline, cold))
 
@@ -82,7 +82,7 @@ extern _Thread_local object_thread object_self __attribute__((tls_model("initial
 
 /* ---- object_clients.c ------------------------------------------------------------------------ */
 
-/* Whether claims work here: to be asked once, when a cache is opened. */
+/* Tells the system that clients will be claimed: when a cache is opened. */
 void claims_begin(void);
 
 /* The cell of a cache that isn't in its home; null if each is in use by calls on other caches. */
@@ -132,7 +132,7 @@ void owned_freed(struct owned *it);
 void owned_use(atomic_bool *used, uint32_t number);
 #endif
 
-/* ---- What the checking library looks at in clients -------------------------------------------- */
+/* ---- What the checking library looks at in clients ------------------------------------------- */
 
 /* A call begins to use a client: the program ends if another one does. */
 static inline void client_used(object_client *client) {
@@ -151,7 +151,7 @@ static inline void client_unused(object_client *client) {
 
 /* ---- Entering a cache and leaving it --------------------------------------------------------- */
 
-/* Whether something waits to be given back. */
+/* Whether something waits to be given back: taken off the queue already, or there, too. */
 static inline bool has_backlog(object_client *client) {
     return atomic_load_explicit(&client->backlog, memory_order_relaxed) != NULL;
 }

@@ -13,8 +13,7 @@
 #include <sys/syscall.h>
 #include <unistd.h>
 
-/* How many clients are claimed in vain before a call goes without, and how many handles one call
- * gives back for others. */
+/* How many clients are claimed in vain before a call goes without. */
 enum { TRIES = 4 };
 
 _Thread_local object_thread object_self;
@@ -37,7 +36,8 @@ static bool all_fenced(void) {
 
 static uint32_t own_token(void) {
     if (object_self.token == NOBODY) {
-        object_self.token = (uint32_t)syscall(SYS_gettid) << 1;
+        object_self.cursor = (uint32_t)syscall(SYS_gettid);
+        object_self.token = object_self.cursor << 1;
     }
     return object_self.token;
 }
