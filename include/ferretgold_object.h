@@ -54,8 +54,10 @@
  *   cache is closed, leaves nothing behind.
  *   - No thread waits for another. Where there are more threads than clients, a call works through
  *     a client that is in no call just then, which costs a system call (membarrier). If it finds
- *     none, a look-up misses, `insert` drops, and what else needs a client refuses by NO_CLIENT: so
- *     will most calls, where many more threads run than there are clients.
+ *     none, a look-up misses, `insert` drops, `insert_pinned` gives a handle on an object that
+ *     stands alone and isn't in the usage, if fewer such handles are out than there are clients,
+ *     and what else needs a client refuses by NO_CLIENT. So do most calls, where many more threads
+ *     run than there are clients.
  *   - A client with no handle left to give, or no serial, is changed for another.
  *
  * HANDLES
@@ -136,8 +138,8 @@ typedef struct ferretgold_object_cache ferretgold_object_cache;
 
 /*
  * How many bytes a cache of this configuration allocates:
- *     shards * (272 + slots * 64) + 6384
- *     + clients * (1000 + 72 * shards + 192 * handles + 24 * gone)
+ *     shards * (272 + slots * 64) + 6448
+ *     + clients * (1064 + 72 * shards + 192 * handles + 24 * gone)
  * A shard's table is rounded up as ferretgold_memory says. The checking library takes more. 0 if
  * `config` is null.
  */
@@ -249,9 +251,9 @@ ferretgold_status ferretgold_object_insert(ferretgold_object_cache *cache,
 /*
  * The same, and gives a handle on it: PLACED or STANDALONE, as ferretgold_insert_pinned has it.
  *
- * Refuses NO_CLIENT, if the arguments are right; BAD_PRIORITY, NO_CHARGE, HANDLES_FULL, SPENT,
- * GONE_FULL, TOO_HIGH, TOO_LARGE; and if strict, after evictions that stay made, CAPACITY_FULL,
- * OCCUPANCY_FULL.
+ * Refuses BAD_PRIORITY, NO_CHARGE, HANDLES_FULL, SPENT, GONE_FULL, TOO_HIGH, TOO_LARGE; and if
+ * strict, after evictions that stay made, CAPACITY_FULL, OCCUPANCY_FULL. Where no client is to be
+ * had, NO_CLIENT behind these of arguments.
  */
 ferretgold_status ferretgold_object_insert_pinned(ferretgold_object_cache *cache,
                                                   const ferretgold_key *key, void *object,

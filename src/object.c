@@ -28,12 +28,29 @@ void delete_object(ferretgold_object_cache *cache, const ferretgold_key *key,
     cache->deleter(cache->context, key, object, value->kind);
 }
 
+/* Runs the deleter of one object of no client. Whether there was one. */
+static bool has_deleted_alone(ferretgold_object_cache *cache) {
+    object_cell *cell = cell_of(cache);
+    if (cell == NULL || cell->alone == NULL) {
+        return false;
+    }
+    record *it = cell->alone;
+    const ferretgold_object_handle was = it->shows;
+    const ferretgold_object_value value = {(uintptr_t)was.object, was.kind};
+    cell->alone = (record *)(uintptr_t)it->handle.serial;
+    spare_given_back(cache, it);
+    delete_object(cache, &was.key, &value);
+    return true;
+}
+
 void run_deleters(object_client *client) {
     ferretgold_key key = {0, 0};
     ferretgold_object_value value = {0, 0};
-    while (ferretgold_raw_object_take_gone(&client->session, &key, &value) == FERRETGOLD_OK) {
-        delete_object(client->cache, &key, &value);
-    }
+    do {
+        while (ferretgold_raw_object_take_gone(&client->session, &key, &value) == FERRETGOLD_OK) {
+            delete_object(client->cache, &key, &value);
+        }
+    } while (has_deleted_alone(client->cache));
     client->untaken = false;
 }
 
@@ -57,11 +74,12 @@ void give_back_all(object_client *client) {
 
 /* ---- A call from its beginning to its end ---------------------------------------------------- */
 
-/* A deleter's call begins. */
+/* A deleter's call begins: in the client of the call that runs the deleter, if that has one. */
 SLOWLY static object_cell *entered_again(object_cell *it) {
-    if (it != NULL) {
-        it->depth += 1;
+    if (it == NULL || it->in_use == NULL) {
+        return NULL;
     }
+    it->depth += 1;
     return it;
 }
 
@@ -176,18 +194,16 @@ static void relieve_all(ferretgold_object_cache *cache) {
 
 /* ---- Handles --------------------------------------------------------------------------------- */
 
-/* Fills the record of a proved handle. */
-static inline const ferretgold_object_handle *shown(object_client *client,
-                                                    const ferretgold_handle *handle,
+/* Fills a record: of a proved handle, or a spare one. */
+static inline const ferretgold_object_handle *shown(record *it, uint64_t serial,
                                                     const ferretgold_key *key,
                                                     const ferretgold_object_value *value,
                                                     uint64_t charge) {
-    record *it = &client->records[handle->index];
     it->shows.object = (void *)(uintptr_t)value->address;
     it->shows.key = *key;
     it->shows.charge = (uint32_t)charge;
     it->shows.kind = value->kind;
-    it->handle.serial = handle->serial;
+    it->handle.serial = serial;
     atomic_store_explicit(&it->references, 1, memory_order_relaxed);
     return &it->shows;
 }
@@ -203,7 +219,7 @@ static inline uint32_t looked_up(object_client *client, const ferretgold_key *ke
         return status;
     }
     (void)ferretgold_raw_object_charge(&client->session, &found, &charge);
-    *handle = shown(client, &found, key, &value, charge);
+    *handle = shown(&client->records[found.index], found.serial, key, &value, charge);
     return FERRETGOLD_OK;
 }
 
@@ -258,7 +274,8 @@ ferretgold_status ferretgold_object_pin_at(ferretgold_object_cache *cache, uint3
         status = ferretgold_raw_object_pin_at(&it->in_use->session, shard, slot, &held);
     } while (status > FERRETGOLD_MISS && may_retry(it, status, &changes));
     if (status == FERRETGOLD_OK) {
-        *handle = shown(it->in_use, &held.handle, &held.key, &held.object, held.charge);
+        *handle = shown(&it->in_use->records[held.handle.index], held.handle.serial, &held.key,
+                        &held.object, held.charge);
     }
     return leave(it, status);
 }
@@ -282,10 +299,52 @@ ferretgold_status ferretgold_object_ref(ferretgold_object_cache *cache,
     return FERRETGOLD_OK;
 }
 
+/* Puts an object of no client where its thread's call finds it. */
+static void leave_alone(object_cell *cell, record *it) {
+    it->handle.serial = (uintptr_t)cell->alone;
+    cell->alone = it;
+    if (cell->in_use != NULL) {
+        cell->in_use->untaken = true;
+    }
+}
+
+/* Ends the handle of an object of no client. The thread's first call runs its deleter: this one,
+ * also where there is no client for it. */
+static ferretgold_status ended_alone(ferretgold_object_cache *cache, record *it) {
+    object_cell *cell = cell_of(cache);
+    if (cell != NULL && cell->depth > 0) {
+        leave_alone(cell, it);
+        return FERRETGOLD_OK;
+    }
+    if (enter(cache) != NULL) {
+        leave_alone(cell, it);
+        return leave(cell, FERRETGOLD_OK);
+    }
+    if (cell == NULL) {
+        const ferretgold_object_handle was = it->shows;
+        const ferretgold_object_value value = {(uintptr_t)was.object, was.kind};
+        spare_given_back(cache, it);
+        delete_object(cache, &was.key, &value);
+        return FERRETGOLD_OK;
+    }
+    cell->in_use = NULL;
+    cell->ready = NULL;
+    cell->depth = 1;
+    leave_alone(cell, it);
+    while (has_deleted_alone(cache)) {
+    }
+    cell->depth = 0;
+    return FERRETGOLD_OK;
+}
+
 /* Gives a handle back by its client, whose call this is, or leaves it to that, and gives back what
  * waits there if that is much. */
 SLOWLY static ferretgold_status given_back(ferretgold_object_cache *cache, record *it,
                                            bool useful, bool erase_if_last, bool *freed) {
+    if (it->handle.client == NOWHERE) {
+        *freed = true;
+        return ended_alone(cache, it);
+    }
     object_client *client = &cache->client[it->handle.client];
     object_cell *cell = enter_own(client);
     if (cell == NULL) {
@@ -363,6 +422,7 @@ typedef struct insertion {
     bool pinned;
     uint32_t placing;
     ferretgold_handle handle;
+    record *spare; /* in place of a handle's */
 } insertion;
 
 /* One try, by one client. */
@@ -404,8 +464,9 @@ static uint32_t insert_tries(object_cell *cell, insertion *it) {
     }
 }
 
-/* What an insertion comes to for which no client is to be had: there is no record for a handle. */
-static uint32_t insert_nowhere(insertion *it) {
+/* What an insertion comes to for which no client is to be had: with a handle its object stands
+ * alone, if there is a record for it. */
+static uint32_t insert_nowhere(ferretgold_object_cache *cache, insertion *it) {
     if (it->priority >= PRIORITIES) {
         return FERRETGOLD_BAD_PRIORITY;
     }
@@ -415,8 +476,9 @@ static uint32_t insert_nowhere(insertion *it) {
     if (it->value.address >> ADDRESS_BITS != 0) {
         return FERRETGOLD_TOO_HIGH;
     }
-    it->placing = FERRETGOLD_DROPPED;
-    return it->pinned ? FERRETGOLD_NO_CLIENT : FERRETGOLD_OK;
+    it->placing = it->pinned ? FERRETGOLD_STANDALONE : FERRETGOLD_DROPPED;
+    it->spare = it->pinned ? spare_taken(cache) : NULL;
+    return it->pinned && it->spare == NULL ? FERRETGOLD_NO_CLIENT : FERRETGOLD_OK;
 }
 
 static ferretgold_status insert(ferretgold_object_cache *cache, insertion *it,
@@ -426,7 +488,7 @@ static ferretgold_status insert(ferretgold_object_cache *cache, insertion *it,
     (void)call, (void)object;
     object_cell *cell = enter(cache);
     owned_begins(cache->owned, object, it->value.kind, call);
-    const uint32_t status = cell != NULL ? insert_tries(cell, it) : insert_nowhere(it);
+    const uint32_t status = cell != NULL ? insert_tries(cell, it) : insert_nowhere(cache, it);
     if (status != FERRETGOLD_OK || it->placing == FERRETGOLD_DROPPED) {
         owned_ends(cache->owned, object, it->value.kind);
     }
@@ -435,7 +497,8 @@ static ferretgold_status insert(ferretgold_object_cache *cache, insertion *it,
             *inserted = (ferretgold_inserted)it->placing;
         }
         if (it->pinned) {
-            *handle = shown(cell->in_use, &it->handle, it->key, &it->value, it->charge);
+            record *its = it->spare != NULL ? it->spare : &cell->in_use->records[it->handle.index];
+            *handle = shown(its, it->handle.serial, it->key, &it->value, it->charge);
         }
     }
     return cell != NULL ? leave(cell, status) : (ferretgold_status)status;
@@ -449,7 +512,7 @@ ferretgold_status ferretgold_object_insert(ferretgold_object_cache *cache,
         return FERRETGOLD_NULL;
     }
     insertion it = {key, {(uintptr_t)object, kind}, charge, (uint32_t)priority, false, 0,
-                    {0, 0, 0, 0}};
+                    {0, 0, 0, 0}, NULL};
     return insert(cache, &it, inserted, NULL, __func__);
 }
 
@@ -463,7 +526,7 @@ ferretgold_status ferretgold_object_insert_pinned(ferretgold_object_cache *cache
         return FERRETGOLD_NULL;
     }
     insertion it = {key, {(uintptr_t)object, kind}, charge, (uint32_t)priority, true, 0,
-                    {0, 0, 0, 0}};
+                    {0, 0, 0, 0}, NULL};
     return insert(cache, &it, inserted, handle, __func__);
 }
 

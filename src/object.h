@@ -21,12 +21,16 @@ typedef struct record {
     _Alignas(LINE) ferretgold_object_handle shows;
     ferretgold_handle handle; /* the proved one */
     atomic_uint references;   /* 0 once it was given back */
-    _Atomic(uint16_t) depth;  /* how many are on the queue with this one */
+    _Atomic(uint16_t) depth;  /* how many are on the queue with this one; of a spare one the next */
     bool useful;              /* how it was given back */
     bool erase_if_last;
 } record;
 
 _Static_assert(sizeof(record) == LINE, "a record is one line");
+
+/* In place of a client's number in a record that stands for an object of no client: it stands
+ * alone, inserted where no client was to be had. */
+#define NOWHERE UINT32_MAX
 
 /* A client. One thread names it at most, and works through it while nobody else has claimed it. */
 typedef struct object_client {
@@ -48,7 +52,7 @@ enum { NOBODY = 0, CLAIMED = 1 };
 
 struct ferretgold_object_cache {
     _Alignas(LINE) uint64_t life; /* a number that no other cache of the process has */
-    uint32_t home;                /* where among a thread's cells it is looked for first, in bytes */
+    uint32_t home;                /* where among a thread's cells it is looked for, in bytes */
     uint32_t number;              /* the proved cache's, which its handles have */
     object_client *client;
     ferretgold_deleter deleter;
@@ -57,6 +61,8 @@ struct ferretgold_object_cache {
     ferretgold_object cache; /* the proved library's */
     ferretgold_object left;  /* the place for what is left when it is closed */
     struct owned *owned;     /* what the checking library knows of it */
+    record *spare;           /* as many as clients */
+    _Alignas(LINE) _Atomic(uint64_t) spares; /* the first of those not in use, from 1, and a count */
 };
 
 /* What a thread knows of a cache. */
@@ -64,7 +70,8 @@ typedef struct object_cell {
     uint64_t life;         /* of the cache; 0 if this cell is free */
     object_client *client; /* that the thread names; null if it names none */
     object_client *ready;  /* the same between calls, if it has no backlog; else null */
-    object_client *in_use; /* by its call */
+    object_client *in_use; /* by its call; null if that has none */
+    record *alone;         /* objects of no client that are to be deleted */
     uint32_t depth;        /* how many calls it is in: more than one from a deleter */
 } object_cell;
 
@@ -104,6 +111,10 @@ uint32_t record_pushed(object_client *client, record *it, bool useful, bool eras
 /* Gives back at most so many handles of those that other threads gave back, and runs no deleter.
  * Whether there were as many. */
 bool records_given_back(object_client *client, uint32_t most);
+
+/* A spare record, if there is one; and it goes back. */
+record *spare_taken(ferretgold_object_cache *cache);
+void spare_given_back(ferretgold_object_cache *cache, record *it);
 
 /* ---- object.c -------------------------------------------------------------------------------- */
 
@@ -157,7 +168,8 @@ static inline bool has_backlog(object_client *client) {
 }
 
 static inline bool has_returned(object_client *client) {
-    return has_backlog(client) || atomic_load_explicit(&client->queue, memory_order_relaxed) != NULL;
+    return has_backlog(client)
+           || atomic_load_explicit(&client->queue, memory_order_relaxed) != NULL;
 }
 
 /* A thread begins to use the client that it names, unless that is claimed. Who claims it makes all

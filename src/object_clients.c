@@ -73,7 +73,7 @@ object_cell *cell_found(const ferretgold_object_cache *cache) {
         it = cell_freed();
     }
     if (it != NULL) {
-        *it = (object_cell){cache->life, NULL, NULL, NULL, 0};
+        *it = (object_cell){cache->life, NULL, NULL, NULL, NULL, 0};
     }
     return it;
 }

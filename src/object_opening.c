@@ -20,7 +20,7 @@ ferretgold_status ferretgold_object_config_check(const ferretgold_object_config 
 
 /* What this file allocates. */
 static uint64_t own_memory(const ferretgold_object_config *config) {
-    const uint64_t records = config->handles * (uint64_t)sizeof(record);
+    const uint64_t records = (config->handles + UINT64_C(1)) * sizeof(record);
     return sizeof(ferretgold_object_cache) + config->clients * (sizeof(object_client) + records);
 }
 
@@ -63,7 +63,8 @@ static ferretgold_object_cache *made(const ferretgold_object_config *config) {
     it->life = atomic_fetch_add(&lives, 1) + 1;
     it->home = (uint32_t)(it->life % CELLS * sizeof(object_cell));
     it->client = (object_client *)(void *)(it + 1);
-    record *records = (record *)(void *)&it->client[config->clients];
+    it->spare = (record *)(void *)&it->client[config->clients];
+    record *records = it->spare + config->clients;
     for (uint32_t number = 0; number < config->clients; number++) {
         object_client *client = &it->client[number];
         client->cache = it;
@@ -75,6 +76,14 @@ static ferretgold_object_cache *made(const ferretgold_object_config *config) {
         }
     }
     return it;
+}
+
+static void spares_begin(ferretgold_object_cache *it) {
+    for (uint32_t k = 0; k < it->config.clients; k++) {
+        it->spare[k].handle.client = NOWHERE;
+        it->spare[k].handle.cache = it->number;
+        spare_given_back(it, &it->spare[k]);
+    }
 }
 
 /* The proved cache and its sessions. */
@@ -92,6 +101,7 @@ static uint32_t opened(ferretgold_object_cache *it) {
             it->client[number].records[k].handle.cache = it->number;
         }
     }
+    spares_begin(it);
     return status;
 }
 
@@ -157,6 +167,25 @@ static bool is_quiet(ferretgold_object_cache *cache) {
         }
     }
     return true;
+}
+
+/* Takes all spare records; whether none was in use. */
+static bool spares_ended(ferretgold_object_cache *cache) {
+    uint32_t count = 0;
+    record *taken = NULL;
+    for (record *it = NULL; (it = spare_taken(cache)) != NULL; count++) {
+        it->shows.object = taken;
+        taken = it;
+    }
+    if (count == cache->config.clients) {
+        return true;
+    }
+    while (taken != NULL) {
+        record *next = taken->shows.object;
+        spare_given_back(cache, taken);
+        taken = next;
+    }
+    return false;
 }
 
 /* Claims all clients. Nobody is in a call, so none looks at a claim meanwhile. */
@@ -230,8 +259,12 @@ ferretgold_status ferretgold_object_close(ferretgold_object_cache *cache) {
     it->depth = 1;
     settle_all(cache, it);
     it->depth = 0;
-    const uint32_t status = ended(cache);
+    const bool are_back = spares_ended(cache);
+    const uint32_t status = are_back ? ended(cache) : FERRETGOLD_HANDLES_OUT;
     if (status != FERRETGOLD_OK) {
+        if (are_back) {
+            spares_begin(cache);
+        }
         unclaim_all(cache);
         return (ferretgold_status)status;
     }

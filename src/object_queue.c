@@ -42,3 +42,33 @@ bool records_given_back(object_client *client, uint32_t most) {
     }
     return most == 0;
 }
+
+/* ---- Spare records --------------------------------------------------------------------------- */
+
+/* The count of changes keeps one that was taken and put back meanwhile from being taken for the
+ * same. */
+static uint64_t spares_with(uint64_t seen, uint16_t first) {
+    return ((seen >> 32) + 1) << 32 | first;
+}
+
+record *spare_taken(ferretgold_object_cache *cache) {
+    uint64_t seen = atomic_load(&cache->spares);
+    uint32_t first;
+    uint16_t next;
+    do {
+        first = (uint32_t)seen;
+        if (first == 0) {
+            return NULL;
+        }
+        next = atomic_load(&cache->spare[first - 1].depth);
+    } while (!atomic_compare_exchange_weak(&cache->spares, &seen, spares_with(seen, next)));
+    return &cache->spare[first - 1];
+}
+
+void spare_given_back(ferretgold_object_cache *cache, record *it) {
+    const uint16_t first = (uint16_t)(it - cache->spare + 1);
+    uint64_t seen = atomic_load(&cache->spares);
+    do {
+        atomic_store(&it->depth, (uint16_t)seen);
+    } while (!atomic_compare_exchange_weak(&cache->spares, &seen, spares_with(seen, first)));
+}

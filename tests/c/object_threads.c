@@ -193,10 +193,16 @@ static void ending(void) {
 
 /* ---- No client to be had --------------------------------------------------------------------- */
 
-/* Waits within the call. */
+/* Waits within the call, or counts an object that has a count, where no client is to be had. */
 static void delete_slowly(void *context, const ferretgold_key *key, void *object, uint16_t kind) {
     other *it = context;
-    (void)key, (void)object, (void)kind;
+    const ferretgold_object_handle *handle = NULL;
+    if (object != NULL) {
+        atomic_fetch_add((atomic_ulong *)object, 1);
+        EXPECT(kind, 7);
+        EXPECT(ferretgold_object_lookup(it->cache, key, &handle), FERRETGOLD_MISS);
+        return;
+    }
     sem_post(&it->ready);
     await(&it->go);
 }
@@ -206,8 +212,9 @@ static void nowhere(void) {
     static other it;
     const ferretgold_object_config config = small_cache();
     const ferretgold_key key = key_of(1);
-    const ferretgold_object_handle *handle = NULL;
+    const ferretgold_object_handle *handle = NULL, *none = NULL;
     ferretgold_inserted inserted = 9;
+    atomic_ulong deleted = 0;
     ferretgold_object_cache *cache = opened(&config, delete_slowly, &it);
     begin(&it, cache, use_once);
     await(&it.ready);
@@ -221,15 +228,31 @@ static void nowhere(void) {
            FERRETGOLD_NO_CHARGE);
     EXPECT(ferretgold_object_insert(cache, &key, (void *)(UINT64_C(1) << 48), 1, 1, FERRETGOLD_LOW,
                                     NULL), FERRETGOLD_TOO_HIGH);
-    EXPECT(ferretgold_object_insert_pinned(cache, &key, NULL, 1, 1, FERRETGOLD_LOW, NULL, &handle),
-           FERRETGOLD_NO_CLIENT);
-    EXPECT(ferretgold_object_pin_at(cache, 0, 0, &handle), FERRETGOLD_NO_CLIENT);
+    for (unsigned k = 1; k < 3; k++) {
+        EXPECT(ferretgold_object_insert_pinned(cache, &key, &deleted, 7, 9, FERRETGOLD_LOW,
+                                               &inserted, &handle), FERRETGOLD_OK);
+        EXPECT(inserted, FERRETGOLD_STANDALONE);
+        EXPECT(handle->object == &deleted && handle->kind == 7 && handle->charge == 9, true);
+        EXPECT(ferretgold_object_insert_pinned(cache, &key, NULL, 1, 1, FERRETGOLD_LOW, NULL,
+                                               &none), FERRETGOLD_NO_CLIENT);
+        EXPECT(ferretgold_object_ref(cache, handle), FERRETGOLD_OK);
+        EXPECT(released(cache, handle), false);
+        EXPECT(released(cache, handle), true);
+        EXPECT(atomic_load(&deleted), k);
+        EXPECT(ferretgold_object_release(cache, handle, false, false, NULL), FERRETGOLD_NO_HANDLE);
+    }
+    EXPECT(ferretgold_object_insert_pinned(cache, &key, &deleted, 7, 9, FERRETGOLD_LOW, NULL,
+                                           &handle), FERRETGOLD_OK);
+    EXPECT(ferretgold_object_pin_at(cache, 0, 0, &none), FERRETGOLD_NO_CLIENT);
     EXPECT(ferretgold_object_erase(cache, &key, NULL), FERRETGOLD_NO_CLIENT);
     EXPECT(ferretgold_object_collect(cache), FERRETGOLD_OK);
     EXPECT(ferretgold_object_close(cache), FERRETGOLD_CLIENTS_OUT);
-    EXPECT(handle == NULL, true);
+    EXPECT(none == NULL, true);
     sem_post(&it.go);
     end(&it);
+    EXPECT(ferretgold_object_close(cache), FERRETGOLD_HANDLES_OUT);
+    EXPECT(released(cache, handle), true);
+    EXPECT(atomic_load(&deleted), 3);
     EXPECT(ferretgold_object_close(cache), FERRETGOLD_OK);
 }
 
