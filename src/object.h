@@ -62,7 +62,7 @@ struct ferretgold_object_cache {
     ferretgold_object left;  /* the place for what is left when it is closed */
     struct owned *owned;     /* what the checking library knows of it */
     record *spare;           /* as many as clients */
-    _Alignas(LINE) _Atomic(uint64_t) spares; /* the first of those not in use, from 1, and a count */
+    _Alignas(LINE) _Atomic(uint64_t) spares; /* the first not in use, from 1, and a count */
 };
 
 /* What a thread knows of a cache. */
