@@ -290,6 +290,7 @@ static void bad_configs(void) {
 static void refused_after_evictions(void) {
     journal log = {0};
     ferretgold_object_config config = small_cache();
+    config.gone = 16; /* the list isn't full, and nothing tried again */
     config.strict = true;
     ferretgold_object_cache *cache = opened(&config, note, &log);
     char blocks[4];
