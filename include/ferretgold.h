@@ -251,7 +251,7 @@ typedef struct ferretgold_client ferretgold_client;
 
 /*
  * How many bytes a cache of this configuration allocates:
- *     shards * (272 + slots * 8 * (7 + room)) + clients * (736 + 72 * shards + 104 * handles)
+ *     shards * (272 + slots * 8 * (7 + room)) + clients * (728 + 72 * shards + 104 * handles)
  *     + 64 * (clients / 64, rounded up) + 560
  * A shard's table, slots * 8 * (7 + room) + 96 of these, is rounded up to whole pages of 2 MiB from
  * 4 MiB on: it begins at one, and lies on such pages where the system gives them. ferretgold_open

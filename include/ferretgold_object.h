@@ -139,7 +139,7 @@ typedef struct ferretgold_object_cache ferretgold_object_cache;
 /*
  * How many bytes a cache of this configuration allocates:
  *     shards * (272 + slots * 64) + 6448
- *     + clients * (1072 + 72 * shards + 192 * handles + 24 * gone)
+ *     + clients * (1064 + 72 * shards + 192 * handles + 24 * gone)
  * A shard's table is rounded up as ferretgold_memory says. The checking library takes more. 0 if
  * `config` is null.
  */

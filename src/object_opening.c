@@ -31,7 +31,7 @@ uint64_t ferretgold_object_memory(const ferretgold_object_config *config) {
     const uint64_t shards = config->shards, clients = config->clients;
     const uint64_t table = config->slots * UINT64_C(64) + 32; /* with the ledgers behind them */
     const uint64_t lists = 24 * (uint64_t)config->gone + 128 * (uint64_t)config->handles;
-    const uint64_t client = 880 + 72 * shards + lists;
+    const uint64_t client = 872 + 72 * shards + lists;
     return shards * (176 + taken(table)) + clients * client + 6256 + own_memory(config);
 }
 

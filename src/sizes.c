@@ -13,7 +13,7 @@ uint64_t ferretgold_memory(const ferretgold_config *config) {
     const uint64_t shards = config->shards, clients = config->clients;
     const uint64_t slot = UINT64_C(8) * (7 + (uint64_t)config->room);
     const uint64_t table = config->slots * slot + 32; /* with the ledgers behind the slots */
-    const uint64_t client = 736 + 72 * shards + 104 * (uint64_t)config->handles;
+    const uint64_t client = 728 + 72 * shards + 104 * (uint64_t)config->handles;
     return shards * (176 + taken(table)) + clients * client + (clients + 63) / 64 * 64 + 560;
 }
 

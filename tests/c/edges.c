@@ -188,7 +188,7 @@ static void budgets(void) {
         {1 << 20, 16, 1, 8192, 2, 1, 5734 * 16},
         {100000, 8, 7, 1024, 1, 1, 716 * 8},
         {160000, 8, 8, 1024, 1, 2, 1433 * 8},
-        {3880, 0, 1, 8, 1, 1, 5 * 8},
+        {3872, 0, 1, 8, 1, 1, 5 * 8},
         {UINT64_MAX, 4096, 1, 65536, 512, 64, UINT64_C(2936012) * 4096}};
     ferretgold_config it = SMALL;
     for (size_t k = 0; k < sizeof all / sizeof *all; k++) {
@@ -206,7 +206,7 @@ static void budgets(void) {
     EXPECT(ferretgold_config_for(1 << 20, 4097, 1, &it), 30);
     EXPECT(ferretgold_config_for(1 << 20, 8, 0, &it), 31);
     EXPECT(ferretgold_config_for(1 << 20, 8, 1025, &it), 31);
-    EXPECT(ferretgold_config_for(3879, 8, 1, &it), 29);
+    EXPECT(ferretgold_config_for(3871, 8, 1, &it), 29);
     EXPECT(it.slots == SMALL.slots && it.room == SMALL.room && it.seed == SMALL.seed, true);
     EXPECT(ferretgold_config_for(UINT64_MAX, 4096, 1024, &it), 0);
     EXPECT(it.shards == 64 && it.clients == 1024, true);
