@@ -1,11 +1,10 @@
 -- What a shard shows at the moments of a call: in the worlds to which the histories lead that its
 -- seat knew then.
-use Rattle.std.specs.Prelude.{◌≡◌, ℕ, zero, suc, ◌+◌, ◌<◌, true, List, [], ◌∷◌, ◌++◌, Option, Some, None, IsSomeAnd, slice_get, option_and_then, if◌then◌else◌}
+use Rattle.std.specs.Prelude.{◌≡◌, ℕ, zero, suc, ◌+◌, ◌<◌, true, List, [], ◌∷◌, ◌++◌, Option, Some, None, IsSomeAnd}
 use Rattle.hcc_core.specs.declared.slot.Entry.{Entry}
-use Rattle.hcc_core.specs.declared.slot.Slot.{Slot}
-use Rattle.hcc_core.specs.declared.slot.Slot.TheVariants as slots
 use Rattle.hcc_core.specs.Sums.{when}
 use Rattle.hcc_core.specs.World.{State}
+pub use Rattle.hcc_core.specs.Shown.{entry_shown, shown_at}
 use Rattle.hcc_rule.specs.declared.key.Key.{Key}
 use Rattle.hcc_rule.specs.declared.table.RuleTable.{RuleTable}
 use Rattle.hcc_rule.specs.declared.view.Done.{Done}
@@ -20,15 +19,6 @@ use Rattle.hcc_table.specs.declared.inserting.Insertion.TheVariants.{Placed, Mat
 use Rattle.hcc_table.specs.declared.pins.Pin.{Pin}
 use Rattle.hcc_table.specs.Searched.{is_key}
 use Rattle.hcc_table.specs.Seeking.{Seeks, is_seeking}
-
--- the entry that a slot shows, and that a slot of a world does
-abbrev pub entry_shown : Slot → Option Entry
-entry_shown (slots.Empty strays) = None
-entry_shown (slots.Building client strays) = None
-entry_shown (slots.Shareable r) = if r.shown then Some r.entry else None
-
-abbrev pub shown_at : State → (slot : ℕ) → Option Entry
-shown_at world slot = option_and_then entry_shown (slice_get world.slots slot)
 
 -- a world shows a key in a slot: a visible entry of the key is there
 abbrev pub ShowsKey : State → Key → (slot : ℕ) → Type 0
