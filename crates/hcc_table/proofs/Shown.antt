@@ -1,5 +1,5 @@
 -- What the events of a search tell of what the world shows: they change nothing of it.
-use Rattle.std.proofs.Common.{◌≡◌, ℕ, ◌-◌, ◌%◌, ◌<◌, ◌≤◌, Bool, true, false, List, [], ◌∷◌, Option, Some, None, Result, Ok, Err, length, slice_get, slice_set, sym, refl, ap, ◌∙◌, arith}
+use Rattle.std.proofs.Common.{◌≡◌, ℕ, ◌%◌, ◌<◌, ◌≤◌, Bool, true, false, List, [], ◌∷◌, Option, Some, None, Result, Ok, Err, length, slice_get, sym, refl, ap, ◌∙◌, arith}
 use Rattle.std.specs.Prelude.{option_and_then, if◌then◌else◌}
 use Rattle.std.proofs.lemmas.Bool.{lt-ltb}
 use Rattle.std.proofs.lemmas.Option.{same_Some}
@@ -12,23 +12,22 @@ use Rattle.hcc_core.specs.declared.event.Phase.{Phase}
 use Rattle.hcc_core.specs.declared.event.Phase.TheVariants as phases
 use Rattle.hcc_core.specs.declared.event.Reply.{Reply}
 use Rattle.hcc_core.specs.declared.event.Reply.TheVariants as replies
-use Rattle.hcc_core.specs.declared.limits.TheConstants.{CORRECTION, MOST_SLOTS}
+use Rattle.hcc_core.specs.declared.limits.TheConstants.{MOST_SLOTS}
 use Rattle.hcc_core.specs.declared.slot.Entry.{Entry}
-use Rattle.hcc_core.specs.declared.slot.Reference.{Reference}
 use Rattle.hcc_core.specs.declared.slot.Slot.{Slot}
 use Rattle.hcc_core.specs.declared.slot.Slot.TheVariants as slots
 use Rattle.hcc_core.specs.declared.slot.Stamp.{Stamp}
-use Rattle.hcc_core.specs.Entries.{entry_read, peek_of, read_of}
+use Rattle.hcc_core.specs.Entries.{peek_of}
 use Rattle.hcc_core.specs.Lawful.{shown_stamp}
-use Rattle.hcc_core.specs.Outcomes.{◌>>=◌, Outcome, allow, holding, live_at, slot_at}
-use Rattle.hcc_core.specs.References.{acquire_of, acquired, give_of, look_of, may_acquire, new_reference, slot_acquired, slot_given}
+use Rattle.hcc_core.specs.Outcomes.{◌>>=◌, Outcome, allow, live_at, slot_at}
+use Rattle.hcc_core.specs.References.{acquire_of, acquired, may_acquire}
 use Rattle.hcc_core.specs.Runs.{after, after_all, world_after}
 use Rattle.hcc_core.specs.Steps.{in_range, outcome_of, rule_of}
 use Rattle.hcc_core.specs.Trails.{count_of}
-use Rattle.hcc_core.specs.Uses.{correct_of, mark_of, may_correct, slot_marked, slot_with_uses}
-use Rattle.hcc_core.specs.World.{State, counts_in, passed_at, passed_by, phase_if, phase_of, times, trail_of, uses_of}
+use Rattle.hcc_core.specs.World.{State, counts_in, passed_at, passed_by, phase_if, phase_of, times, trail_of}
 use Rattle.hcc_core.proofs.Keeps.{found_ok}
-use Rattle.hcc_core.proofs.ListLemmas.{read_same}
+use Rattle.hcc_core.proofs.Shows.{slot_changed}
+use Rattle.hcc_core.proofs.StaysShown.{after_shows}
 use Rattle.hcc_core.proofs.SumLemmas.{total-member}
 use Rattle.hcc_rule.specs.declared.key.Key.{Key}
 use Rattle.hcc_rule.specs.declared.view.Done.{Done}
@@ -44,150 +43,28 @@ use Rattle.hcc_table.specs.Seeking.{is_seeking}
 use Rattle.hcc_table.specs.Standing.{entry_shown, shown_at}
 use Rattle.hcc_table.proofs.Probings.{visible_has}
 
--- What each event of a search leaves.
+-- an event of a search changes neither an entry nor whether it is shown
+seeking_unchanged : (w : State) (event : Event) → is_seeking event ≡ true
+    → slot_changed w event ≡ None
+seeking_unchanged w (events.Show client key0 key1 charge countdown name value) is = cc
+seeking_unchanged w (events.Hide client name) is = cc
+seeking_unchanged w (events.Free client slot name) is = cc
+seeking_unchanged w (events.Empty client) is = cc
+seeking_unchanged w other is = refl
 
--- each slot shows what it showed, whatever the outcome
-abbrev Stays : State → Outcome → Type 0
-Stays w o = (s : ℕ) → shown_at (world_after w o) s ≡ shown_at w s
-
--- a reading on the way
-chain : (w : State) {A : Type 0} (r : Result A CoreError) (f : A → Outcome)
-    → ((x : A) → r ≡ Ok x → Stays w (f x)) → Stays w (r >>= f)
-chain w (Ok x) f h = h x refl
-chain w (Err e) f h = λ s. refl
-
--- a change of a slot that shows the same
-both_stay : (w : State) (slot : ℕ) (seen left : Slot) → slot_at w slot ≡ Ok seen
-    → entry_shown left ≡ entry_shown seen → (s : ℕ)
-    → option_and_then entry_shown (slice_get (slice_set w.slots slot left) s) ≡ shown_at w s
-both_stay w slot seen left at same s =
-    read_same (option_and_then entry_shown) w.slots slot s seen left (found_ok _ _ seen at) same
-
-look_stays : (w : State) (client slot : ℕ) → Stays w (look_of w client slot)
-look_stays w client slot =
-    chain w (slot_at w slot) _ (λ seen at. chain w (live_at w client) _ (λ found live. λ s. refl))
-
-acquired_shows : (seen : Slot) (k : Reference) → entry_shown (slot_acquired seen k)
-    ≡ entry_shown seen
-acquired_shows (slots.Empty strays) k = refl
-acquired_shows (slots.Building client strays) k = refl
-acquired_shows (slots.Shareable r) k = refl
-
-acquire_stays : (w : State) (client slot weight name : ℕ)
-    → Stays w (acquire_of w client slot weight name)
-unfolding acquire_of
-acquire_stays w client slot weight name =
-    chain w (slot_at w slot) _ (λ seen at. chain w (live_at w client) _ (λ found live.
-    chain w (allow (may_acquire w.setup w.slots client found slot seen weight name)) _ (λ u may.
-    both_stay w slot seen _ at
-    (acquired_shows seen (new_reference client name weight seen)))))
-
-given_shows : (client name : ℕ) (seen : Slot) → entry_shown (slot_given client name seen)
-    ≡ entry_shown seen
-given_shows client name (slots.Empty strays) = refl
-given_shows client name (slots.Building other strays) = refl
-given_shows client name (slots.Shareable r) = refl
-
-give_stays : (w : State) (client name : ℕ) → Stays w (give_of w client name)
-unfolding give_of
-give_stays w client name =
-    chain w (live_at w client) _ (λ found live. chain w (holding w client name) _ (λ slot held.
-    chain w (slot_at w slot) _ (λ seen at.
-    both_stay w slot seen _ at (given_shows client name seen))))
-
-read_stays : (w : State) (client name : ℕ) → Stays w (read_of w client name)
-unfolding read_of
-read_stays w client name =
-    chain w (live_at w client) _ (λ found live. chain w (holding w client name) _ (λ slot held.
-    chain w (slot_at w slot) _ (λ seen at. chain w (entry_read seen) _ (λ entry is. λ s. refl))))
-
-peek_stays : (w : State) (client slot : ℕ) → Stays w (peek_of w client slot)
-unfolding peek_of
-peek_stays w client slot =
-    chain w (slot_at w slot) _ (λ seen at. chain w (live_at w client) _ (λ found live. λ s. refl))
-
-count_stays : (w : State) (client slot : ℕ) → Stays w (count_of w client slot)
-unfolding count_of
-count_stays w client slot =
-    chain w (slot_at w slot) _ (λ seen at. chain w (live_at w client) _ (λ found live. λ s. refl))
-
-marked_shows : (seen : Slot) → entry_shown (slot_marked seen) ≡ entry_shown seen
-marked_shows (slots.Empty strays) = refl
-marked_shows (slots.Building client strays) = refl
-marked_shows (slots.Shareable r) = refl
-
-mark_stays : (w : State) (client name : ℕ) → Stays w (mark_of w client name)
-unfolding mark_of
-mark_stays w client name =
-    chain w (live_at w client) _ (λ found live. chain w (holding w client name) _ (λ slot held.
-    chain w (slot_at w slot) _ (λ seen at.
-    both_stay w slot seen _ at (marked_shows seen))))
-
-recounted_shows : (uses : ℕ) (seen : Slot) → entry_shown (slot_with_uses uses seen)
-    ≡ entry_shown seen
-recounted_shows uses (slots.Empty strays) = refl
-recounted_shows uses (slots.Building client strays) = refl
-recounted_shows uses (slots.Shareable r) = refl
-
-correct_stays : (w : State) (client name : ℕ) → Stays w (correct_of w client name)
-unfolding correct_of
-correct_stays w client name =
-    chain w (live_at w client) _ (λ found live. chain w (holding w client name) _ (λ slot held.
-    chain w (slot_at w slot) _ (λ seen at.
-    chain w (allow (may_correct client name seen)) _ (λ u may.
-    both_stay w slot seen _ at
-    (recounted_shows (uses_of seen - CORRECTION) seen)))))
-
-rule_stays : (w : State) (event : Event) → is_seeking event ≡ true → Stays w (rule_of w event)
-rule_stays w (events.Look client slot) is = look_stays w client slot
-rule_stays w (events.Acquire client slot weight name) is = acquire_stays w client slot weight name
-rule_stays w (events.Peek client slot) is = peek_stays w client slot
-rule_stays w (events.Read client name) is = read_stays w client name
-rule_stays w (events.Give client name) is = give_stays w client name
-rule_stays w (events.Count client slot) is = count_stays w client slot
-rule_stays w (events.Mark client name) is = mark_stays w client name
-rule_stays w (events.Correct client name) is = correct_stays w client name
-rule_stays w (events.Start client) is = cc
-rule_stays w (events.Use client name) is = cc
-rule_stays w (events.Occupy client slot) is = cc
-rule_stays w (events.Show client key0 key1 charge countdown name value) is = cc
-rule_stays w (events.Hide client name) is = cc
-rule_stays w (events.Free client slot name) is = cc
-rule_stays w (events.Empty client) is = cc
-rule_stays w (events.Write client) is = cc
-rule_stays w (events.Enter client) is = cc
-rule_stays w (events.Charge client charge) is = cc
-rule_stays w (events.Slots client) is = cc
-rule_stays w (events.Settle client) is = cc
-rule_stays w (events.End client) is = cc
-rule_stays w (events.Clock client slot) is = cc
-rule_stays w (events.Waive client) is = cc
-rule_stays w (events.Quit client) is = cc
-rule_stays w (events.Usage client) is = cc
-rule_stays w (events.Occupancy client) is = cc
-rule_stays w (events.Standing client) is = cc
-rule_stays w (events.Stand client charge name) is = cc
-rule_stays w (events.Fall client name) is = cc
-rule_stays w (events.Pass client slot) is = cc
-rule_stays w (events.Unpass client slot) is = cc
-rule_stays w (events.Turn client) is = cc
-
-outcome_stays : (w : State) (event : Event) → is_seeking event ≡ true
-    → Stays w (outcome_of w event)
-unfolding outcome_of
-outcome_stays w event is = by (in_range event) (rule_stays w event is)
-  where
-    by : (b : Bool) → Stays w (rule_of w event)
-        → Stays w (if b then rule_of w event else Err NotAllowed)
-    by true h = h
-    by false h = λ s. refl
+-- so it leaves what each slot shows
+event_stays : (w : State) (event : Event) → is_seeking event ≡ true → (s : ℕ)
+    → shown_at (after w event) s ≡ shown_at w s
+event_stays w event seeking s =
+    after_shows w event s (λ is.
+    let bad : None ≡ Some s = sym (seeking_unchanged w event seeking) ∙ is in cc)
 
 -- Events of searches leave what each slot shows.
 pub seeking_stays : (ds : List Done) → Each (λ (done : Done). is_seeking done.event ≡ true) ds
     → (w : State) (s : ℕ) → shown_at (after_all w (events_of ds)) s ≡ shown_at w s
 seeking_stays [] only w s = refl
 seeking_stays (d ∷ ds) only w s =
-    seeking_stays ds only.1 (after w d.event) s ∙ outcome_stays w d.event only.0 s
+    seeking_stays ds only.1 (after w d.event) s ∙ event_stays w d.event only.0 s
 
 -- What replies tell.
 
@@ -220,7 +97,7 @@ ruled w event z h = by (in_range event) h
 leads_stays : (w w' : State) (event : Event) (reply : Reply) → is_seeking event ≡ true
     → outcome_of w event ≡ Ok (reply, w') → (s : ℕ) → shown_at w' s ≡ shown_at w s
 leads_stays w w' event reply seeking is s =
-    ap (λ o. shown_at (world_after w o) s) (sym is) ∙ outcome_stays w event seeking s
+    ap (λ o. shown_at (world_after w o) s) (sym is) ∙ event_stays w event seeking s
 
 module _ (w w' : State) (client slot : ℕ) where
   -- a slot's phase is no visible one where the word is none

@@ -13,6 +13,7 @@ use Rattle.hcc_core.specs.declared.event.Phase.TheVariants as phases
 use Rattle.hcc_core.specs.declared.event.Reply.{Reply}
 use Rattle.hcc_core.specs.declared.event.Reply.TheVariants as replies
 use Rattle.hcc_core.specs.declared.slot.Entry.{Entry}
+use Rattle.hcc_core.specs.declared.slot.Reference.{Reference}
 use Rattle.hcc_core.specs.declared.slot.Slot.{Slot}
 use Rattle.hcc_core.specs.declared.slot.Slot.TheVariants as slots
 use Rattle.hcc_core.specs.Outcomes.{◌>>=◌, Outcome, holding, live_at, slot_at}
@@ -34,7 +35,19 @@ use Rattle.hcc_table.specs.Standing.{entry_shown, shown_at}
 use Rattle.hcc_table.specs.Still.{ReleasesBy}
 use Rattle.hcc_table.proofs.Alone.{event_alone}
 use Rattle.hcc_table.proofs.Shown.{bound, ruled, same_outcome}
-use Rattle.hcc_table.proofs.Still.{leaves_shown}
+
+-- what a slot shows it shows without the reference that was given or used
+given_shows : (client name : ℕ) (seen : Slot)
+    → entry_shown (slot_given client name seen) ≡ entry_shown seen
+given_shows client name (slots.Empty strays) = refl
+given_shows client name (slots.Building other strays) = refl
+given_shows client name (slots.Shareable r) = refl
+
+used_shows : (client name : ℕ) (k : Reference) (seen : Slot)
+    → entry_shown (slot_used client name k seen) ≡ entry_shown seen
+used_shows client name k (slots.Empty strays) = refl
+used_shows client name k (slots.Building other strays) = refl
+used_shows client name k (slots.Shareable r) = refl
 
 -- a word is that of a visible entry where its slot's phase is told as Shown
 seen_phase : (word : ℕ) → phase_in word ≡ phases.Shown → is_visible word ≡ true
@@ -140,7 +153,7 @@ module _ {w : State} {held entry : Entry} (client name slot : ℕ) (one : FindsO
   unfolding give_of
   give_shown is =
       let at = on_slot (ruled w (events.Give client name) _ is) in
-      left_told (slot_given client name at.2) _ (leaves_shown.gives client name at.2 ∙ at.3) at.4
+      left_told (slot_given client name at.2) _ (given_shows client name at.2 ∙ at.3) at.4
 
   -- and what a use does.
   use_shown : {left : ℕ} {phase : Phase} {next : State}
@@ -151,7 +164,7 @@ module _ {w : State} {held entry : Entry} (client name slot : ℕ) (one : FindsO
       let at = on_slot (ruled w (events.Use client name) _ is) in
       let more = bound (ok_or (counting_in client name (references_of at.2)) NotAllowed) _ _ at.4 in
       left_told (slot_used client name more.0 at.2) _
-      (leaves_shown.uses client name more.0 at.2 ∙ at.3) more.2
+      (used_shows client name more.0 at.2 ∙ at.3) more.2
 
 module _ {T A : Type 0} (table : RuleTable T A) (one : clients_of table ≡ 1) where
   -- A reference on an entry that is shown was given back: nobody who doesn't ask to erase takes it.

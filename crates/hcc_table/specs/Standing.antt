@@ -4,6 +4,7 @@ use Rattle.std.specs.Prelude.{◌≡◌, ℕ, zero, suc, ◌+◌, ◌<◌, true,
 use Rattle.hcc_core.specs.declared.slot.Entry.{Entry}
 use Rattle.hcc_core.specs.Sums.{when}
 use Rattle.hcc_core.specs.World.{State}
+pub use Rattle.hcc_core.specs.Shown.{entry_shown, shown_at}
 use Rattle.hcc_rule.specs.declared.key.Key.{Key}
 use Rattle.hcc_rule.specs.declared.table.RuleTable.{RuleTable}
 use Rattle.hcc_rule.specs.declared.view.Done.{Done}
@@ -18,7 +19,6 @@ use Rattle.hcc_table.specs.declared.inserting.Insertion.TheVariants.{Placed, Mat
 use Rattle.hcc_table.specs.declared.pins.Pin.{Pin}
 use Rattle.hcc_table.specs.Searched.{is_key}
 use Rattle.hcc_table.specs.Seeking.{Seeks, is_seeking}
-pub use Rattle.hcc_core.specs.Shown.{entry_shown, shown_at}
 
 -- a world shows a key in a slot: a visible entry of the key is there
 abbrev pub ShowsKey : State → Key → (slot : ℕ) → Type 0
