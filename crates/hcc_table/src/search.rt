@@ -100,7 +100,7 @@ pub fn find<T: Tag, A: Allocator>(
         effort.probes(1);
         return None;
     }
-    walk = beyond(walk);
+    walk.probe = beyond(walk.probe, walk.stride);
     for probe in 1..slots {
         let slot = walk.slot();
         let data = table.data_of(slot);
@@ -125,16 +125,14 @@ pub fn find<T: Tag, A: Allocator>(
     None
 }
 
-/// The walk at the second probe. It is cold, so that compilers keep what the loop behind it needs
-/// out of the way of the first.
+/// The second probe. It is cold, so that compilers keep what the loop behind it needs out of the way
+/// of the first.
 #[cold]
 #[inline(never)]
-fn beyond(walk: Walk) -> Walk
-    ensures probe { result.probe ≡ (walk.probe + walk.stride) % 2 ^ 64 }
-    ensures stride { result.stride ≡ walk.stride }
-    ensures mask { result.mask ≡ walk.mask }
+fn beyond(probe: u64, stride: u64) -> u64
+    ensures { result ≡ (probe + stride) % 2 ^ 64 }
 {
-    walk.next()
+    probe.wrapping_add(stride)
 }
 
 /// A reference on the slot's entry, where the slot shows one of this key: the word that was found.

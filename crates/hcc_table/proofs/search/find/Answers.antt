@@ -1,4 +1,4 @@
-use Rattle.std.proofs.Common.{◌≡◌, ◌+◌, ◌<◌, ◌≤◌, ap, subst, sym, ◌∙◌, arith}
+use Rattle.std.proofs.Common.{◌≡◌, ◌+◌, ◌<◌, ◌≤◌, ap, refl, subst, sym, ◌∙◌, arith}
 use Rattle.hcc_word.specs.Word.{hit_of}
 use Rattle.hcc_table.specs.Efforts.{Took, VisitedSlots}
 use Rattle.hcc_rule.specs.declared.view.Atomic.{Atomic}
@@ -135,7 +135,6 @@ pub loop-probe-init : goal.loop-probe-init
 loop-probe-init g c =
     let table = c.args.table.now in
     let told = c.count_at.ensures in
-    let next = c.beyond-walk.ensures in
     let start = (begins c.args.table.now.geometry.slots c.args.key
     c.args.table.now.limits.power c.begin-walk.result c.args.seat.now c.begin-walk.ensures.probe
     c.begin-walk.ensures.stride (rw (← c.geometry-slots.ensures) c.begin-walk.ensures.mask)) in (
@@ -143,7 +142,7 @@ loop-probe-init g c =
           c.slot-home.result c.begin-walk.result c.args.seat.now c.args.seat.now start
           c.slot-home.ensures c.acquire_at.new.seat c.count_at.new.seat c.acquire_at.ensures.seat
           told.seat c.in_default.ensures.missed told.view told.held told.within
-          c.beyond-walk.result next.probe next.stride next.mask,
+          (record c.begin-walk.result { probe = c.beyond.result }) c.beyond.ensures refl refl,
       c.acquire_at.ensures.effort,
       (let held = c.acquire_at.ensures.steps in let one = told.step.one in omega arith),
       unmarked_then c.args.seat.now c.acquire_at.new.seat c.count_at.new.seat
