@@ -1,11 +1,12 @@
 #!/usr/bin/env bash
 # Builds and runs the examples for LevelDB: 100,000 keys that four threads read through a cache of a
 # tenth of the data; a warm start of a larger one; and a program whose files change between the
-# saving of a cache and its loading. And those for RocksDB: three threads that read a database while
-# it compacts, for three sizes of blocks; a warm start; then, with fewer reads, the first under
-# AddressSanitizer and UndefinedBehaviorSanitizer. It fails where a read is wrong, no block was kept
-# or none was found, or a warm start finds little. Without xxhash.h, or without RocksDB 7.8, which
-# tests/needs.sh installs where it may, it says what it skipped.
+# saving of a cache and its loading. And those for RocksDB: its block cache replaced, and the test of
+# the header for that; three threads that read a database while it compacts, for three sizes of
+# blocks; a warm start; then, with fewer operations, the test and the threads under AddressSanitizer
+# and UndefinedBehaviorSanitizer. It fails where a read is wrong, no block was kept or none was
+# found, or a warm start finds little. Without xxhash.h, or without RocksDB 7.8, which tests/needs.sh
+# installs where it may, it says what it skipped.
 # Usage: tests/engines.sh
 set -u
 cd "$(dirname "$0")/.." || exit 2
@@ -35,6 +36,13 @@ is_replaced() {
         && mkdir "$folder/files" && "$folder/replaced" "$folder/files"
 }
 
+# The test of the header for RocksDB: blocks OPERATIONS WORD..
+blocks() {
+    c++ -std=c++17 -O1 -g -Wall -Wextra -Wpedantic -Werror -Iinclude "${@:2}" \
+        tests/c/rocksdb_cache.cpp src/out/libferretgold.a -lrocksdb -pthread -o "$folder/blocks" \
+        && "$folder/blocks" "$folder/blocks.database" "$1"
+}
+
 # Whether RocksDB is here, with LZ4, in the release that the example is for.
 has_rocksdb() {
     c++ -E -x c++ - > /dev/null 2>&1 << 'END'
@@ -53,9 +61,15 @@ if has_xxhash "engines: LevelDB, warm"; then
 fi
 if has_rocksdb; then
     tries "RocksDB" makes rocksdb run-compacting
+    tries "RocksDB, its block cache" makes rocksdb run-blocks
+    tries "RocksDB, calls of its block cache" blocks 1000000
     has_xxhash "engines: RocksDB, warm" && tries "RocksDB, a warm start" warms_up rocksdb
-    sanitizes "engines: RocksDB" c++ && tries "RocksDB, with sanitizers" \
-        makes rocksdb BUILD="$folder/sanitized" SANITIZE=address,undefined READS=2000 run-compacting
+    if sanitizes "engines: RocksDB" c++; then
+        tries "RocksDB, with sanitizers" makes rocksdb BUILD="$folder/sanitized" \
+            SANITIZE=address,undefined READS=2000 run-compacting
+        tries "RocksDB, calls of its block cache, with sanitizers" \
+            blocks 100000 -fsanitize=address,undefined -fno-sanitize-recover=all
+    fi
 else
     echo "engines: SKIPPED: there is no RocksDB 7.8, and tests/needs.sh could install none"
 fi

@@ -63,6 +63,12 @@ by_cmake() {
     done
 }
 
+# RocksDB with the cache as its block cache.
+is_block_cache() {
+    c++ -std=c++17 -I"$prefix/include" examples/rocksdb/block_cache.cpp -L"$prefix/lib" -lferretgold -lrocksdb \
+        -Wl,-rpath,"$prefix/lib" -pthread -o "$folder/built" && "$folder/built" "$folder/blocks"
+}
+
 # The crate, its example and its tests.
 by_rustc() {
     local it=$prefix/share/ferretgold/rust words=(--edition 2021 -O -D warnings)
@@ -126,6 +132,12 @@ if [[ -f $prefix/lib/libferretgold_file.a ]]; then
 else
     echo "install: SKIPPED: files: there is no xxhash.h"
     skipped=$((skipped + 2))
+fi
+if echo '#include "ferretgold_rocksdb.hpp"' | c++ -std=c++17 -E -Iinclude -x c++ - > "$nothing" 2>&1; then
+    tries "C++, RocksDB" is_block_cache
+else
+    echo "install: SKIPPED: RocksDB: there is no 7.8 of it: tests/needs.sh installs it"
+    skipped=$((skipped + 1))
 fi
 tries_with python3 "the shared library's functions" python3 tests/install/shared.py "$prefix"
 tries "make dist, twice" is_packed_alike
