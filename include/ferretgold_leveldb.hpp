@@ -114,6 +114,7 @@ class leveldb_cache final : public leveldb::Cache {
     static_assert(alignof(ferretgold_object_handle) > BITS && alignof(node) > BITS,
                   "ferretgold: handles have no bits left here");
 
+    enum : std::uint16_t { KIND = 0 }; // of which the checking library sees that each stands once
     enum : unsigned { PARTS = 16, TRIES = 10000 };
     enum : std::uint32_t { CLIENTS = 64, GONE = 64, FEWEST_HANDLES = 32, MOST_HANDLES = 1024 };
     enum : std::uint64_t { FEWEST_SLOTS = 64, SLOTS_OF_SHARD = 4096, MOST_SHARDS = 64 };
@@ -199,7 +200,8 @@ inline ferretgold_object_config leveldb_cache::config_for(std::size_t capacity,
 inline bool leveldb_cache::has_opened(const ferretgold_object_config &config) noexcept {
     shards_ = config.shards;
     slots_ = config.slots;
-    return ferretgold_object_open(&config, delete_object, this, &cache_) == FERRETGOLD_OK;
+    return ferretgold_object_open(&config, delete_object, this, &cache_) == FERRETGOLD_OK
+           && ferretgold_object_owns(cache_, KIND) == FERRETGOLD_OK;
 }
 
 inline leveldb_cache::~leveldb_cache() {
@@ -310,7 +312,7 @@ inline leveldb::Cache::Handle *leveldb_cache::Insert(const Slice &key, void *val
     ferretgold_inserted inserted = FERRETGOLD_DROPPED;
     add_to_total(it, charge);
     const ferretgold_status status =
-        ferretgold_object_insert_pinned(cache_, &at, it, 0, static_cast<std::uint32_t>(charged),
+        ferretgold_object_insert_pinned(cache_, &at, it, KIND, static_cast<std::uint32_t>(charged),
                                         FERRETGOLD_BOTTOM, &inserted, &handle);
     if (status != FERRETGOLD_OK || inserted != FERRETGOLD_PLACED) {
         take_from_total(it); // held still, so it is there
