@@ -33,6 +33,8 @@
 //     stay. LevelDB's own cache waits for its mutex.
 //   - 2,048 handles may be out, or half as many as entries, if that is more, up to 65,536: then
 //     look-ups miss, and insertions are uncached.
+//   - What is charged more than a shard's part of the capacity is uncached, as it would drive out
+//     all others there: that part is 1,433 usual charges at least, or the whole capacity.
 //   - It keeps a fifth more entries than the capacity has usual charges, or more. All memory except
 //     nodes is allocated when it is made: half a MiB of a small cache, and of 1 GiB in blocks of
 //     4 KiB 3.1 of a hundred for slots, and 1.2 besides; of 64 MiB 3.1 and 2.7.
@@ -153,6 +155,7 @@ class leveldb_cache final : public leveldb::Cache {
     ferretgold_object_cache *cache_ = nullptr;
     std::uint32_t shards_ = 0;
     std::uint32_t slots_ = 0;
+    std::uint64_t most_ = 0; // that an entry is charged
     bool is_closing_ = false;
     std::atomic<std::uint64_t> ids_{0};
     part parts_[PARTS];
@@ -200,6 +203,7 @@ inline ferretgold_object_config leveldb_cache::config_for(std::size_t capacity,
 inline bool leveldb_cache::has_opened(const ferretgold_object_config &config) noexcept {
     shards_ = config.shards;
     slots_ = config.slots;
+    most_ = config.capacity / config.shards;
     return ferretgold_object_open(&config, delete_object, this, &cache_) == FERRETGOLD_OK
            && ferretgold_object_owns(cache_, KIND) == FERRETGOLD_OK;
 }
@@ -303,7 +307,7 @@ inline leveldb::Cache::Handle *leveldb_cache::Insert(const Slice &key, void *val
                                                      std::size_t charge, deleter delete_value) {
     node *it = made_node(key, value, delete_value);
     const ferretgold_key at = found_by(key);
-    if (!has_erased(at)) {
+    if (!has_erased(at) || charge > most_) {
         return handle_on(it, UNCACHED);
     }
     const std::size_t charged =

@@ -127,11 +127,17 @@ const row OF_HUNDRED[] = {
     {'p', 0, 0, 0, 5, 0},            {'l', 3, 0, -1, 5, 0},
     {'i', 4, 0, 0, 5, 0}, // of no charge
     {'l', 4, 0, 6, 5, 0},            {'e', 4, 0, 0, 6, 0},
-    {'I', 5, HUGE_CHARGE, 0, 6, HUGE_CHARGE},
-    {'l', 5, 0, 7, 6, HUGE_CHARGE},  {'r', 5, 0, 0, 6, HUGE_CHARGE},
+    {'i', 5, 100, 0, 6, 100},        {'l', 5, 0, 7, 6, 100},
     {'i', 6, 1, 0, 7, 1}, // evicts it
     {'l', 5, 0, -1, 7, 1},           {'l', 6, 0, 8, 7, 1},
-    {'p', 0, 0, 0, 8, 0},
+    {'I', 6, 101, 0, 8, 0}, // above the capacity
+    {'l', 6, 0, -1, 8, 0},           {'r', 6, 0, 0, 9, 0},
+};
+
+const row OF_MUCH[] = {
+    {'i', 1, HUGE_CHARGE, 0, 0, HUGE_CHARGE}, {'l', 1, 0, 1, 0, HUGE_CHARGE},
+    {'i', 2, 1, 0, 0, HUGE_CHARGE + 1},       {'e', 1, 0, 0, 1, 1},
+    {'p', 0, 0, 0, 2, 0},
 };
 
 const row OF_NOTHING[] = {
@@ -159,8 +165,9 @@ struct player {
     }
 };
 
-template <std::size_t COUNT> void play(std::size_t capacity, const row (&rows)[COUNT]) {
-    std::unique_ptr<Cache> cache(ferretgold::new_leveldb_cache(capacity, 1));
+template <std::size_t COUNT>
+void play(std::size_t capacity, std::size_t usual, const row (&rows)[COUNT]) {
+    std::unique_ptr<Cache> cache(ferretgold::new_leveldb_cache(capacity, usual));
     player it{*cache, {}, 0};
     deleted = 0;
     for (std::size_t k = 0; k < COUNT; k++) {
@@ -391,8 +398,9 @@ void threads(long count, long operations) {
 
 int main(int count, char **words) {
     const long operations = count > 1 ? std::atol(words[1]) : 1000000;
-    play(100, OF_HUNDRED);
-    play(0, OF_NOTHING);
+    play(100, 1, OF_HUNDRED);
+    play(32 * HUGE_CHARGE, HUGE_CHARGE, OF_MUCH);
+    play(0, 1, OF_NOTHING);
     sizes();
     keys();
     evictions();
