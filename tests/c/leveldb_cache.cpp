@@ -257,6 +257,21 @@ void evictions() {
     EXPECT(kept, 500);
 }
 
+// A scan passes through: what it inserts goes at the clock's first visit, what is used at the fourth.
+// Where the insertion's handle counts as a use, too, the clock comes by nearly twice as often.
+void scans() {
+    std::unique_ptr<Cache> cache(ferretgold::new_leveldb_cache(1000, 1));
+    for (long number = 0; number < 4500; number++) {
+        insert(*cache, key_of(number), number);
+        for (int uses = 0; number < 10 && uses < 3; uses++) {
+            EXPECT(found(*cache, key_of(number)), number);
+        }
+    }
+    for (long number = 0; number < 10; number++) {
+        EXPECT(found(*cache, key_of(number)), number);
+    }
+}
+
 // More handles than there are: insertions are uncached, look-ups miss, and no value is lost.
 void handles() {
     std::unique_ptr<Cache> cache(ferretgold::new_leveldb_cache(10000, 1));
@@ -404,6 +419,7 @@ int main(int count, char **words) {
     sizes();
     keys();
     evictions();
+    scans();
     EXPECT(lives.load(), 0);
     handles();
     deleters();
