@@ -257,8 +257,8 @@ void evictions() {
     EXPECT(kept, 500);
 }
 
-// A scan passes through: what it inserts goes at the clock's first visit, what is used at the fourth.
-// Where the insertion's handle counts as a use, too, the clock comes by nearly twice as often.
+// A scan passes through: what it inserts goes at the clock's first visit, what is used at the
+// fourth. Did the insertion's handle count as a use, the clock would come by more often.
 void scans() {
     std::unique_ptr<Cache> cache(ferretgold::new_leveldb_cache(1000, 1));
     for (long number = 0; number < 4500; number++) {
