@@ -43,6 +43,12 @@ blocks() {
         && "$folder/blocks" "$folder/blocks.database" "$1"
 }
 
+# The cache that LevelDB takes, by calls and threads: calls_leveldb WORD..
+calls_leveldb() {
+    c++ -std=c++11 -g -Wall -Wextra -Wpedantic -Werror -Iinclude tests/c/leveldb_cache.cpp "$@" -lleveldb \
+        -pthread -o "$folder/calls_leveldb" && "$folder/calls_leveldb"
+}
+
 # Whether RocksDB is here, with LZ4, in the release that the example is for.
 has_rocksdb() {
     c++ -E -x c++ - > /dev/null 2>&1 << 'END'
@@ -54,6 +60,10 @@ has_rocksdb() {
 END
 }
 
+tries "LevelDB, its block cache" makes leveldb run-blocks
+tries "LevelDB, its cache by calls" calls_leveldb -O2 src/out/libferretgold.a
+sanitizes "engines: LevelDB" c++ && tries "LevelDB, its cache by calls, sanitized" \
+    calls_leveldb -O1 -fsanitize=address,undefined -fno-sanitize-recover=all src/out/libferretgold.a
 tries "LevelDB" makes leveldb run-all
 if has_xxhash "engines: LevelDB, warm"; then
     tries "LevelDB, a warm start" warms_up leveldb

@@ -121,6 +121,8 @@ tries "C, shared" builds cc -std=c11 -I"$prefix/include" examples/c/two_threads.
 tries "C, static" builds cc -std=c11 -I"$prefix/include" examples/c/two_threads.c "$prefix/lib/libferretgold.a" -pthread
 tries "C++" builds c++ -std=c++17 -I"$prefix/include" examples/cpp/file_reader.cpp -L"$prefix/lib" -lferretgold \
     -Wl,-rpath,"$prefix/lib"
+[[ ! -f /usr/include/leveldb/cache.h ]] || tries "C++, LevelDB" builds c++ -std=c++11 -I"$prefix/include" \
+    examples/leveldb/block_cache.cpp -L"$prefix/lib" -lferretgold -Wl,-rpath,"$prefix/lib" -lleveldb -pthread
 tries_with pkg-config "C, by pkg-config" by_pkg_config "$prefix"
 tries_with cmake "C++, by CMake" by_cmake
 tries_with rustc "Rust" by_rustc

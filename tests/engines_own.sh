@@ -1,0 +1,11 @@
+#!/usr/bin/env bash
+# Runs engines' own tests over the headers that are caches of theirs: tests/engines/ENGINE.sh of
+# each engine, or of one. They download the engine's source.
+# Usage: tests/engines_own.sh [ENGINE [TEST..]]
+cd "$(dirname "$0")/.." || exit 2
+[[ $# == 0 ]] || exec "tests/engines/$1.sh" "${@:2}"
+failed=0
+for it in tests/engines/*.sh; do
+    "$it" || failed=1
+done
+exit $failed
