@@ -125,8 +125,8 @@ pub fn find<T: Tag, A: Allocator>(
     None
 }
 
-/// The second probe. It is cold, so that compilers keep what the loop behind it needs out of the way
-/// of the first.
+/// The second probe. It is cold, so that compilers keep what the loop behind it needs out of the
+/// way of the first.
 #[cold]
 #[inline(never)]
 fn beyond(probe: u64, stride: u64) -> u64
