@@ -66,7 +66,7 @@ by_cmake() {
 # RocksDB with the cache as its block cache.
 is_block_cache() {
     c++ -std=c++17 -I"$prefix/include" examples/rocksdb/block_cache.cpp -L"$prefix/lib" -lferretgold -lrocksdb \
-        -Wl,-rpath,"$prefix/lib" -pthread -o "$folder/built" && "$folder/built" "$folder/blocks"
+        -Wl,-rpath,"$prefix/lib" -pthread -o "$folder/built" && "$folder/built" "$folder/rocksdb"
 }
 
 # The crate, its example and its tests.
