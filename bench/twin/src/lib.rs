@@ -1,7 +1,8 @@
 //! Ferretgold's algorithm as plain Rust, with `unsafe` where that is faster and without a proof: the
 //! same words, the same steps in the same order, each sequentially consistent. It is what the proved
-//! cache is measured against: what the proved one takes longer is the cost of its form. Only `get` goes
-//! a way of its own: it writes nothing to an entry whose use would change nothing.
+//! cache is measured against: what the proved one takes longer is the cost of its form. Its handles are
+//! judged as the cache's are. Only `get` goes a way of its own: it writes nothing to an entry whose use
+//! would change nothing.
 //!
 //! The functions below are called from C++ (`caches.hpp` of `bench/peers`), one client by one thread
 //! at a time. Each pointer is one that this library gave, and not null.
