@@ -23,7 +23,8 @@ WAITS = re.compile(
     r"\b(Wait\w*|HostRuntime|Mutex\w*|RwLock\w*|Condvar|Barrier|Once|OnceLock|LazyLock|Parker"
     r"|mpsc|SyncSender|Sender|Receiver|forever|lock|try_lock|wait\w*|park\w*|sleep|yield_now|spin_loop)\b"
 )
-# What makes an allocator, hands one on or asks one for memory.
+# What makes an allocator, hands one on or asks one for memory. The contract of push_reserved wants the
+# room to be there.
 ALLOCATES = re.compile(
     r"\b(?:alloc\w*|Global)\b|\b(?:Box|Arc|Rc|String)::\w+|\bVec::(?!len\b)\w+|\b(?:vec|format)!"
     r"|\.(?:push(?!_reserved\()\w*|reserve\w*|extend\w*|append|resize\w*|to_vec|to_owned|to_string|collect\w*|with_capacity)\("

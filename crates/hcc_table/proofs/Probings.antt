@@ -28,6 +28,14 @@ neither b on off = let bad : true ≡ false = sym on ∙ off in cc
 pub visible_has : (word : ℕ) → is_visible word ≡ true → is_shareable word ≡ true
 visible_has word shown = let is = eqb-true (state_of word) VISIBLE shown in rw is refl
 
+-- so a word that is no entry's isn't visible
+pub stray_unshown : (word : ℕ) → is_shareable word ≡ false → is_visible word ≡ false
+stray_unshown word stray = from (is_visible word) refl
+  where
+    from : (b : Bool) → is_visible word ≡ b → is_visible word ≡ false
+    from true shown = neither (is_shareable word) (visible_has word shown) stray
+    from false hidden = hidden
+
 pub one_longer : {A : Type 0} (xs : List A) (x : A) → length (xs ++ x ∷ []) ≡ length xs + 1
 one_longer [] x = refl
 one_longer (y ∷ ys) x = let rest = one_longer ys x in omega arith

@@ -96,7 +96,7 @@ pub(crate) fn reach<T: Tag, A: Allocator>(
     ensures steps { MakesAtMost 2 seat.old seat.new }
 {
     let found = table.acquire_at(seat, at, weight, name);
-    if has_entry(found) && !is_counting(found) {
+    if !is_counting(found) && has_entry(found) {
         relieve(
             table,
             seat,

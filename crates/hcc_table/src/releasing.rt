@@ -1,21 +1,20 @@
 //! References that are given back.
 ghost use Rattle.std.specs.Prelude.{◌≡◌, ◌+◌, ◌^◌, ◌≤◌, true, false, ◌&&◌, ◌||◌, ◌==◌, not, None, IfSome, IfNone, IsSomeAnd, ℕ};
 ghost use Rattle.hcc_word.specs.declared.layout.TheConstants.{CONSTRUCTION_WORD};
-ghost use Rattle.hcc_word.specs.Word.{is_shareable, is_visible};
+ghost use Rattle.hcc_word.specs.Word.{is_shareable, is_visible, refs_of};
 ghost use Rattle.hcc_core.specs.Outcomes.{dropped};
 ghost use Rattle.hcc_rule.specs.Callers.{room_of, IsSeatAt, IsSlotOf, slots_of, IsSlotAt};
 ghost use Rattle.hcc_rule.specs.Addresses.{address_of_meta};
 ghost use Rattle.hcc_rule.specs.Between.{MayFree};
 ghost use Rattle.hcc_rule.specs.Seats.{IsSameSeat, view, SeatOf, atomic};
-ghost use Rattle.hcc_rule.specs.ToldOwners.{IsLast};
 ghost use Rattle.hcc_rule.specs.Views.{is_called};
 ghost use Rattle.hcc_rule.specs.Records.{record_in};
 ghost use Rattle.hcc_table.specs.Efforts.{Lost};
-ghost use Rattle.hcc_table.specs.Freed.{GivesOnce, IsFreed, IsLeft, IsLeftBy, TakesBy, TakesByWhereDue, TriedWhereDue, is_due};
+ghost use Rattle.hcc_table.specs.Freed.{GivesOnce, IsFreed, IsLeft, IsLeftBy, TakesByWhereDue, TriedWhereDue, is_due};
 ghost use Rattle.hcc_table.specs.Lists.{Hands, has_room};
 ghost use Rattle.hcc_table.specs.Pins.{IsPinned, erases, is_useful, IsPinAt};
-ghost use Rattle.hcc_table.specs.Searched.{Searched, Sought};
-ghost use Rattle.hcc_table.specs.Steps.{Among, MakesAtMost, TriesToTake, freeing};
+ghost use Rattle.hcc_table.specs.Searched.{Searched};
+ghost use Rattle.hcc_table.specs.Steps.{Among, MakesAtMost, freeing};
 
 use crate::efforts::Effort;
 use crate::freeing::try_free;
@@ -81,44 +80,10 @@ pub fn release<T: Tag, A: Allocator, L: FreedList<T>>(
     let at = SlotAt { slot, data };
     let left = let_go(table, seat, at, 1, pin.name, used);
     if is_free_to_go(left, last.erases(), list.has_room(1)) {
-        free_unheld(table, seat, at, left, list, effort)
+        try_free(table, seat, at, left, None, list, effort)
     } else {
         None
     }
-}
-
-/// Tries once to take the entry of a slot of which the word that is left says that nobody holds it,
-/// and frees it. It is cold: most releases leave a visible entry, and need nothing of this.
-#[cold]
-#[inline(never)]
-fn free_unheld<T: Tag, A: Allocator, L: FreedList<T>>(
-    table: &RuleTable<T, A>,
-    seat: &mut RuleSeat<T>,
-    at: SlotAt,
-    left: u64,
-    list: &mut L,
-    effort: &mut Effort,
-) -> Option<u64>
-    requires seat { IsSeatAt table.now seat.old }
-    requires at { IsSlotAt table.now at }
-    requires entry { is_shareable left ≡ true }
-    requires unheld { IsLast at.slot left None (view seat.old) }
-    requires may { MayFree (view seat.old) }
-    requires room { has_room 1 (L.shelf list.old) ≡ true }
-    ensures seat { IsSameSeat seat.old seat.new }
-    ensures list { Hands (L.shelf list.old) (L.shelf list.new) (view seat.old) (view seat.new) }
-    ensures lost { IfNone result (Sought (view seat.old) (view seat.new)
-        × ((view seat.new).met ≡ (view seat.old).met) × Lost 1 1 effort.old effort.new) }
-    ensures won { IfSome result (λ _. effort.new ≡ effort.old) }
-    ensures freed { IfSome result (λ charge.
-        IsFreed T.fits (room_of table.now) left None charge (view seat.old) (view seat.new)
-        × ((view seat.new).records ≡ (view seat.old).records)
-        × ((view seat.new).work.looked ≡ (view seat.old).work.looked)) }
-    ensures tried { TriesToTake (address_of_meta table.now at.slot) left result seat.old seat.new }
-    ensures by { TakesBy table.now at.slot left None result seat.old seat.new }
-    ensures steps { MakesAtMost (freeing (slots_of table.now) + L.loads) seat.old seat.new }
-{
-    try_free(table, seat, at, left, None, list, effort)
 }
 
 /// Gives the reference of a pin back, as a use where it is useful and counts, and frees nothing: an
@@ -178,5 +143,15 @@ fn is_free_to_go(word: u64, erase: bool, room: bool) -> bool
     ensures { result ≡ (room && is_due erase word) }
 {
     // Most releases leave a visible entry, so that is tested first.
-    (erase || !is_shown(word)) && has_entry(word) && refs(word) == 0 && room
+    (erase || !is_shown(word)) && is_unheld(word) && room
+}
+
+/// Whether it is the word of an entry that nobody holds. It is cold, so that compilers don't make
+/// one test of it and the one before it.
+#[cold]
+#[inline(never)]
+fn is_unheld(word: u64) -> bool
+    ensures { result ≡ (is_shareable word && (refs_of word == 0)) }
+{
+    has_entry(word) && refs(word) == 0
 }

@@ -171,17 +171,18 @@ pub(crate) fn acquire_at<T: Tag, A: Allocator>(
         return None;
     }
     let found = reach(table, seat, at, 1, name, effort);
-    if !has_entry(found) {
-        return None;
-    }
     if matches(table, seat, at, key, name, found) {
         return Some(found);
+    }
+    if !has_entry(found) {
+        return None;
     }
     table.give_at(seat, at, 1, name);
     None
 }
 
 /// Whether the word that was found is that of a visible entry, and the record's entry has this key.
+/// Where it isn't, nothing is read.
 #[inline(always)]
 pub(crate) fn matches<T: Tag, A: Allocator>(
     table: &RuleTable<T, A>,
@@ -193,8 +194,9 @@ pub(crate) fn matches<T: Tag, A: Allocator>(
 ) -> bool
     requires seat { IsSeatAt table.now seat.old }
     requires at { IsSlotAt table.now at }
-    requires holds { HasOn at.slot name (view seat.old) }
+    requires holds { is_visible found ≡ true → HasOn at.slot name (view seat.old) }
     ensures seat { IsSameSeat seat.old seat.new }
+    ensures unshown { is_visible found ≡ false → seat.new ≡ seat.old }
     ensures view { Sought (view seat.old) (view seat.new) }
     ensures shown { result ≡ true → is_visible found ≡ true }
     ensures equal { result ≡ true

@@ -4,6 +4,7 @@ use Rattle.hcc_rule.specs.Addresses.{address_of_meta}
 use Rattle.hcc_rule.specs.Seats.{Makes, atomic, view}
 use Rattle.hcc_table.proofs.Logs.{begins_then, light, makes_two, unmarked_adds, unmarked_one, unmarked_then}
 use Rattle.hcc_table.proofs.Reaches.{reached_of, relieves}
+use Rattle.hcc_table.proofs.Searches.{searched_refl}
 use Rattle.hcc_table.proofs.acquire.reach.Goals as goal
 
 pub relieve-requires-clause-holds : goal.relieve-requires-clause-holds
@@ -12,14 +13,14 @@ relieve-requires-clause-holds g c =
     c.acquire_at-found.ensures.view
     (sym c.if-has_entry.ensures) c.requires.fresh (sym c.if-not-is_counting.ensures)
 
-pub returns-then-not-is_counting-clause-view : goal.returns-then-not-is_counting-clause-view
-returns-then-not-is_counting-clause-view g c =
+pub returns-then-has_entry-clause-view : goal.returns-then-has_entry-clause-view
+returns-then-has_entry-clause-view g c =
     reached_of g.T.Tag.fits c.args.table.now.geometry.room c.args.at.slot c.args.weight c.args.name
     c.acquire_at-found.result (view c.args.seat.now) (view c.acquire_at-found.new.seat)
     c.acquire_at-found.ensures.view (view c.relieve.new.seat) c.relieve.ensures.view
 
-pub returns-then-not-is_counting-clause-acquires : goal.returns-then-not-is_counting-clause-acquires
-returns-then-not-is_counting-clause-acquires g c = record {
+pub returns-then-has_entry-clause-acquires : goal.returns-then-has_entry-clause-acquires
+returns-then-has_entry-clause-acquires g c = record {
   first = begins_then got c.args.seat.now c.acquire_at-found.new.seat c.relieve.new.seat
       added.step (unmarked_adds c.acquire_at-found.new.seat c.relieve.new.seat
       c.relieve.ensures.adds);
@@ -47,8 +48,8 @@ returns-then-not-is_counting-clause-acquires g c = record {
         c.acquire_at-found.result c.args.seat.now c.acquire_at-found.new.seat
     added = c.acquire_at-found.ensures.step
 
-pub returns-then-not-is_counting-clause-corrects : goal.returns-then-not-is_counting-clause-corrects
-returns-then-not-is_counting-clause-corrects g c = record {
+pub returns-then-has_entry-clause-corrects : goal.returns-then-has_entry-clause-corrects
+returns-then-has_entry-clause-corrects g c = record {
   none = λ fresh. (c.relieve.ensures.passes (λ worn. fresh (
     sym c.if-has_entry.ensures,
     sym c.if-not-is_counting.ensures,
@@ -64,8 +65,15 @@ returns-then-not-is_counting-clause-corrects g c = record {
       );
 }
 
-pub returns-then-not-is_counting-clause-adds : goal.returns-then-not-is_counting-clause-adds
-returns-then-not-is_counting-clause-adds g c =
+pub returns-then-has_entry-clause-adds : goal.returns-then-has_entry-clause-adds
+returns-then-has_entry-clause-adds g c =
     unmarked_then c.args.seat.now c.acquire_at-found.new.seat c.relieve.new.seat
     (unmarked_one _ c.args.seat.now c.acquire_at-found.new.seat c.acquire_at-found.ensures.step.step
     (light c.args.weight c.requires.weight.1)) c.relieve.ensures.adds
+
+pub returns-else-not-is_counting-clause-view : goal.returns-else-not-is_counting-clause-view
+returns-else-not-is_counting-clause-view g c =
+    let got = view c.acquire_at-found.new.seat in
+    reached_of g.T.Tag.fits c.args.table.now.geometry.room c.args.at.slot c.args.weight c.args.name
+    c.acquire_at-found.result (view c.args.seat.now) got c.acquire_at-found.ensures.view got
+    (searched_refl got)

@@ -29,7 +29,7 @@ returns-then-not-has_entry-clause-dead g c = λ _.
     (sym c.if-not-has_entry.ensures)).1
 
 pub matches-requires-clause-holds : goal.matches-requires-clause-holds
-matches-requires-clause-holds g c =
+matches-requires-clause-holds g c = λ _.
     holds_slot
     g.T.Tag.fits c.args.table.now.geometry.room c.args.at.slot c.args.weight c.args.name
     c.reach-found.result c.args.key (view c.args.seat.now) (view c.args.seat.now)

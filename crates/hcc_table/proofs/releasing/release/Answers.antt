@@ -23,12 +23,12 @@ returns-then-is_free_to_go-clause-tried g c =
       tried_due (address_of_meta c.args.table.now c.args.pin.slot) c.let_go-left.result
           (has_room 1 (g.L.FreedList.shelf c.args.list.now)
           && is_due (erases c.args.last) c.let_go-left.result) c.args.effort.now
-          c.free_unheld.new.effort
-          c.let_go-left.new.seat c.free_unheld.new.seat _ _ c.free_unheld.result due
-          c.free_unheld.ensures.won c.free_unheld.ensures.lost c.free_unheld.ensures.tried,
+          c.try_free.new.effort
+          c.let_go-left.new.seat c.try_free.new.seat _ _ c.try_free.result due
+          c.try_free.ensures.won c.try_free.ensures.lost c.try_free.ensures.tried,
       rw (← c.is_use-used.ensures) c.let_go-left.ensures.by,
       (
-        (λ _. c.free_unheld.ensures.by),
+        (λ _. c.try_free.ensures.by),
         (λ off. neither (has_room 1 (g.L.FreedList.shelf c.args.list.now)
             && is_due (erases c.args.last) c.let_go-left.result) due off),
       ),
@@ -61,20 +61,19 @@ returns-then-is_free_to_go-clause-freed g c =
     let given = given_at c.args.pin.slot c.args.pin.name left.found (view c.args.seat.now)
     (view c.let_go-left.new.seat) left.view in
     freed_where_due g.T.Tag.fits (room_of c.args.table.now) (view c.args.seat.now)
-    (view c.let_go-left.new.seat) (view c.free_unheld.new.seat) given
+    (view c.let_go-left.new.seat) (view c.try_free.new.seat) given
     (rw left.view refl) (rw left.view refl)
     (address_of_meta c.args.table.now c.args.pin.slot) c.args.seat.now c.let_go-left.new.seat
-    c.free_unheld.new.seat (erases c.args.last) c.let_go-left.result _ c.free_unheld.result
-    (and_parts _ _ due).1
+    c.try_free.new.seat (erases c.args.last) c.let_go-left.result _ c.try_free.result (and_parts _ _
+    due).1
     (rw left.view refl)
-    (adds_one _ c.args.seat.now c.let_go-left.new.seat left.step.step) c.free_unheld.ensures.tried
-    c.free_unheld.ensures.freed
+    (adds_one _ c.args.seat.now c.let_go-left.new.seat left.step.step) c.try_free.ensures.tried
+    c.try_free.ensures.freed
 
 pub returns-then-is_free_to_go-clause-kept : goal.returns-then-is_free_to_go-clause-kept
 returns-then-is_free_to_go-clause-kept g c =
     let left = c.let_go-left.ensures.left in
-    kept_where_lost (view c.args.seat.now) (view c.let_go-left.new.seat)
-    (view c.free_unheld.new.seat)
-    (Lost 1 1 c.args.effort.now c.free_unheld.new.effort) c.free_unheld.result
+    kept_where_lost (view c.args.seat.now) (view c.let_go-left.new.seat) (view c.try_free.new.seat)
+    (Lost 1 1 c.args.effort.now c.try_free.new.effort) c.try_free.result
     (given_at c.args.pin.slot c.args.pin.name left.found (view c.args.seat.now)
-    (view c.let_go-left.new.seat) left.view) (rw left.view refl) c.free_unheld.ensures.lost
+    (view c.let_go-left.new.seat) left.view) (rw left.view refl) c.try_free.ensures.lost

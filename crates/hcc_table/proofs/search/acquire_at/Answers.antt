@@ -1,14 +1,14 @@
-use Rattle.std.proofs.Common.{◌≡◌, refl, sym, arith}
+use Rattle.std.proofs.Common.{◌≡◌, false, true, refl, sym, arith}
 use Rattle.hcc_word.specs.Word.{is_shareable, is_visible}
 use Rattle.hcc_rule.specs.Addresses.{address_of_meta}
 use Rattle.hcc_rule.specs.Seats.{atomic, view}
 use Rattle.hcc_rule.specs.Words.{key_of}
 use Rattle.hcc_table.specs.Steps.{AddsUnmarked}
-use Rattle.hcc_table.proofs.Logs.{adds_one, among_after, among_first, among_then, light, unmarked_adds, unmarked_none, unmarked_one, unmarked_then, unmarked_zero}
+use Rattle.hcc_table.proofs.Logs.{adds_one, among_after, among_first, among_then, light, unmarked_adds, unmarked_one, unmarked_then, unmarked_zero}
 use Rattle.hcc_table.proofs.Probes.{looked_at, buried_by_look, given_back, strayed, holds, holds_slot, told_key, missed_there, found_there, got_record, on_told}
-use Rattle.hcc_table.proofs.Probings.{neither, other_then, visible_has}
+use Rattle.hcc_table.proofs.Probings.{neither, other_then, stray_unshown, visible_has}
 use Rattle.hcc_table.proofs.Searches.{searched_refl}
-use Rattle.hcc_table.proofs.Seeking.{seeks_none, seeks_one, seeks_then}
+use Rattle.hcc_table.proofs.Seeking.{seeks_one, seeks_then}
 use Rattle.hcc_table.proofs.search.acquire_at.Goals as goal
 
 pub returns-then-not-is_shown-clause-missed : goal.returns-then-not-is_shown-clause-missed
@@ -22,44 +22,46 @@ returns-then-not-is_shown-clause-missed g c =
 
 pub returns-then-not-has_entry-clause-missed : goal.returns-then-not-has_entry-clause-missed
 returns-then-not-has_entry-clause-missed g c =
-    strayed g.T.Tag.fits c.args.table.now.geometry.room c.args.at.slot 1 c.args.name
+    let stray = sym c.if-not-has_entry.ensures in
+    rw (c.matches.ensures.unshown (stray_unshown c.reach-found.result stray))
+    (strayed g.T.Tag.fits c.args.table.now.geometry.room c.args.at.slot 1 c.args.name
     c.reach-found.result c.args.key (view c.args.seat.now) (view c.look_at-seen.new.seat)
     (view c.reach-found.new.seat)
     (looked_at c.args.at.slot c.look_at-seen.result _ _ c.look_at-seen.ensures.view)
-    c.reach-found.ensures.view
-    (sym c.if-not-has_entry.ensures)
+    c.reach-found.ensures.view stray)
 
 pub matches-requires-clause-holds : goal.matches-requires-clause-holds
-matches-requires-clause-holds g c =
+matches-requires-clause-holds g c = λ shown.
     holds_slot g.T.Tag.fits c.args.table.now.geometry.room c.args.at.slot 1 c.args.name
     c.reach-found.result c.args.key (view c.args.seat.now) (view c.look_at-seen.new.seat)
     (view c.reach-found.new.seat)
     (looked_at c.args.at.slot c.look_at-seen.result _ _ c.look_at-seen.ensures.view)
-    c.reach-found.ensures.view (sym c.if-not-has_entry.ensures) c.requires.fresh
+    c.reach-found.ensures.view (visible_has c.reach-found.result shown) c.requires.fresh
     (view c.reach-found.new.seat) (searched_refl (view c.reach-found.new.seat))
 
 pub returns-then-matches-clause-found : goal.returns-then-matches-clause-found
-returns-then-matches-clause-found g c = (
-  got_record g.T.Tag.fits c.args.table.now.geometry.room c.args.at.slot 1 c.args.name
-      c.reach-found.result c.args.key
-      (view c.args.seat.now) (view c.look_at-seen.new.seat) (view c.reach-found.new.seat)
-      (looked_at c.args.at.slot c.look_at-seen.result _ _ c.look_at-seen.ensures.view)
-      c.reach-found.ensures.view (sym c.if-not-has_entry.ensures) c.requires.fresh,
-  found_there g.T.Tag.fits c.args.table.now.geometry.room c.args.at.slot 1 c.args.name
-      c.reach-found.result c.args.key
-      (view c.args.seat.now) (view c.look_at-seen.new.seat) (view c.reach-found.new.seat)
-      (looked_at c.args.at.slot c.look_at-seen.result _ _ c.look_at-seen.ensures.view)
-      c.reach-found.ensures.view (sym c.if-not-has_entry.ensures) c.requires.fresh
-      (view c.matches.new.seat) refl (c.matches.ensures.shown c.if-matches.true)
-      (told_key g.T.Tag.fits c.args.table.now.geometry.room c.args.at.slot 1 c.args.name
-      c.reach-found.result c.args.key (view c.args.seat.now) (view c.look_at-seen.new.seat)
-      (view c.reach-found.new.seat)
-      (looked_at c.args.at.slot c.look_at-seen.result _ _ c.look_at-seen.ensures.view)
-      c.reach-found.ensures.view (sym c.if-not-has_entry.ensures) c.requires.fresh
-      (λ e. key_of e ≡ c.args.key) (c.matches.ensures.equal c.if-matches.true))
-      c.matches.ensures.view (c.matches.ensures.met c.if-matches.true),
-  refl,
-)
+returns-then-matches-clause-found g c =
+    let has = visible_has c.reach-found.result (c.matches.ensures.shown c.if-matches.true) in (
+      got_record g.T.Tag.fits c.args.table.now.geometry.room c.args.at.slot 1 c.args.name
+          c.reach-found.result c.args.key
+          (view c.args.seat.now) (view c.look_at-seen.new.seat) (view c.reach-found.new.seat)
+          (looked_at c.args.at.slot c.look_at-seen.result _ _ c.look_at-seen.ensures.view)
+          c.reach-found.ensures.view has c.requires.fresh,
+      found_there g.T.Tag.fits c.args.table.now.geometry.room c.args.at.slot 1 c.args.name
+          c.reach-found.result c.args.key
+          (view c.args.seat.now) (view c.look_at-seen.new.seat) (view c.reach-found.new.seat)
+          (looked_at c.args.at.slot c.look_at-seen.result _ _ c.look_at-seen.ensures.view)
+          c.reach-found.ensures.view has c.requires.fresh
+          (view c.matches.new.seat) refl (c.matches.ensures.shown c.if-matches.true)
+          (told_key g.T.Tag.fits c.args.table.now.geometry.room c.args.at.slot 1 c.args.name
+          c.reach-found.result c.args.key (view c.args.seat.now) (view c.look_at-seen.new.seat)
+          (view c.reach-found.new.seat)
+          (looked_at c.args.at.slot c.look_at-seen.result _ _ c.look_at-seen.ensures.view)
+          c.reach-found.ensures.view has c.requires.fresh
+          (λ e. key_of e ≡ c.args.key) (c.matches.ensures.equal c.if-matches.true))
+          c.matches.ensures.view (c.matches.ensures.met c.if-matches.true),
+      refl,
+    )
 
 pub give_at-requires-clause-holds : goal.give_at-requires-clause-holds
 give_at-requires-clause-holds g c =
@@ -103,9 +105,10 @@ returns-then-not-is_shown-clause-adds g c =
 
 pub returns-then-not-has_entry-clause-adds : goal.returns-then-not-has_entry-clause-adds
 returns-then-not-has_entry-clause-adds g c =
-    unmarked_then c.args.seat.now c.look_at-seen.new.seat c.reach-found.new.seat
+    unmarked_then c.args.seat.now c.look_at-seen.new.seat c.matches.new.seat
     (unmarked_zero _ _ c.args.seat.now c.look_at-seen.new.seat c.look_at-seen.ensures.step)
-    c.reach-found.ensures.adds
+    (unmarked_then c.look_at-seen.new.seat c.reach-found.new.seat c.matches.new.seat
+    c.reach-found.ensures.adds c.matches.ensures.adds)
 
 pub returns-then-matches-clause-adds : goal.returns-then-matches-clause-adds
 returns-then-matches-clause-adds g c =
@@ -163,19 +166,25 @@ returns-then-not-has_entry-clause-passes g c = (
         corrects = c.reach-found.ensures.corrects;
         by = c.reach-found.ensures.by;
       };
-      adds = unmarked_none c.reach-found.new.seat c.reach-found.new.seat refl;
-      seeks = seeks_none c.args.table.now c.reach-found.new.seat;
+      adds = c.matches.ensures.adds;
+      seeks = c.matches.ensures.seeks;
       kept = record {
-        searched = c.reach-found.ensures.view.searched;
-        records = c.reach-found.ensures.view.stray (sym c.if-not-has_entry.ensures);
+        searched = rw still c.reach-found.ensures.view.searched;
+        records = rw still (c.reach-found.ensures.view.stray stray);
       };
       other = λ shown. neither (is_shareable c.reach-found.result)
-          (visible_has c.reach-found.result shown) (sym c.if-not-has_entry.ensures);
+          (visible_has c.reach-found.result shown) stray;
       loads = λ shown. neither (is_shareable c.reach-found.result)
-          (visible_has c.reach-found.result shown) (sym c.if-not-has_entry.ensures);
+          (visible_has c.reach-found.result shown) stray;
     };
   },
 )
+  where
+    stray : is_shareable c.reach-found.result ≡ false
+    stray = sym c.if-not-has_entry.ensures
+
+    still : c.matches.new.seat ≡ c.reach-found.new.seat
+    still = c.matches.ensures.unshown (stray_unshown c.reach-found.result stray)
 
 pub returns-clause-passes : goal.returns-clause-passes
 returns-clause-passes g c = (
@@ -250,9 +259,12 @@ returns-then-matches-clause-catches g c = record {
       c.reach-found.result c.args.key (view c.args.seat.now) (view c.look_at-seen.new.seat)
       (view c.reach-found.new.seat)
       (looked_at c.args.at.slot c.look_at-seen.result _ _ c.look_at-seen.ensures.view)
-      c.reach-found.ensures.view (sym c.if-not-has_entry.ensures) c.requires.fresh
+      c.reach-found.ensures.view has c.requires.fresh
       (λ e. key_of e ≡ c.args.key) (c.matches.ensures.equal c.if-matches.true);
   loads = c.matches.ensures.loads c.if-matches.true;
   seeks = c.matches.ensures.seeks;
   kept = c.matches.ensures.view;
 }
+  where
+    has : is_shareable c.reach-found.result ≡ true
+    has = visible_has c.reach-found.result (c.matches.ensures.shown c.if-matches.true)
