@@ -5,3 +5,4 @@ pub mod DraftsFilled
 pub mod ReopenedClientsDealt
 pub mod ReopenedShards
 pub mod AllComeIn
+pub mod BegunShown

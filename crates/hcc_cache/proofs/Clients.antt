@@ -5,4 +5,5 @@ pub mod DoneAtAllShards
 pub mod ChargesBounded
 pub mod FoundAtEachShard
 pub mod ShownAfterwards
+pub mod ShownSince
 pub mod Unerased

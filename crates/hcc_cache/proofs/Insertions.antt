@@ -3,3 +3,4 @@ pub mod AnswersTold
 pub mod StandaloneEntry
 pub mod HandleOnInserted
 pub mod WithoutEviction
+pub mod PlacedShown

@@ -3,3 +3,4 @@ pub mod KnownAfterLookup
 pub mod ReadByHandle
 pub mod ReadByKey
 pub mod HeldAtSlots
+pub mod FoundAsMade

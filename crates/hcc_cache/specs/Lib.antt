@@ -9,6 +9,7 @@ pub mod Handles
 pub mod Known
 pub mod Opened
 pub mod Moments
+pub mod Since
 pub mod Calls
 pub mod Gone
 pub mod Objects

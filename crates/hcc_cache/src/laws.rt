@@ -2,17 +2,28 @@
 //!
 //! No function here does anything when it runs: its contract is the law. `m.holds.world` is the
 //! lawful world that the shard's words and what its clients know show.
-ghost use Rattle.std.specs.Prelude.{◌≡◌, ℕ, ◌+◌, ◌-◌, ◌*◌, ◌/◌, ◌^◌, ◌<◌, ◌≤◌, ◌↔◌, min, Bool, true, false, List, Option, None, Some, Ok, Result, IsNone, IsOk, IsSome, slice_get};
+ghost use Rattle.std.specs.Prelude.{◌≡◌, ◌⊎◌, ℕ, ◌+◌, ◌-◌, ◌*◌, ◌/◌, ◌^◌, ◌<◌, ◌≤◌, ◌↔◌, ◌++◌, min, Bool, true, false, List, Option, None, Some, Ok, Result, IsNone, IsOk, IsSome, slice_get};
 ghost use Rattle.hcc_core.specs.declared.limits.TheConstants.{OCCUPANCY_PERCENT};
+ghost use Rattle.std.specs.List.{list_any};
+ghost use Rattle.hcc_core.specs.declared.slot.Entry.{Entry};
 ghost use Rattle.hcc_core.specs.declared.slot.Stamp.{Stamp};
 ghost use Rattle.hcc_core.specs.Lawful.{real_in, taken_in};
+ghost use Rattle.hcc_core.specs.Runs.{entry_at, held_at, takes_away};
 ghost use Rattle.hcc_core.specs.Sums.{total};
 ghost use Rattle.hcc_rule.specs.declared.layout.TheConstants.{OCCUPANCY};
 ghost use Rattle.hcc_rule.specs.declared.key.Key.{Key};
+ghost use Rattle.hcc_rule.specs.declared.view.Done.{Done};
+ghost use Rattle.hcc_rule.specs.declared.view.Logged.{Logged};
+ghost use Rattle.hcc_rule.specs.declared.view.Record.{Record};
 ghost use Rattle.hcc_rule.specs.declared.view.View.{View};
+ghost use Rattle.hcc_rule.specs.Acts.{events_of, IsFront, IsKnown, IsRun};
 ghost use Rattle.hcc_rule.specs.Callers.{world_at};
-ghost use Rattle.hcc_rule.specs.Laws.{StateOf, ledger_word, AreMade, AreOfMade, AreTaken, HoldsNothingTaken, IsMade};
+ghost use Rattle.hcc_rule.specs.Laws.{LoggedStateOf, StateOf, has_entry, ledger_word, references_counted, references_held, AreMade, AreOfMade, AreTaken, HasWordsOfRecords, HoldsNothingTaken, IsMade};
+ghost use Rattle.hcc_rule.specs.Logs.{HoldsLogged};
+ghost use Rattle.hcc_rule.specs.Opening.{begun_world};
+ghost use Rattle.hcc_rule.specs.Records.{record_in};
 ghost use Rattle.hcc_rule.specs.Seats.{view};
+ghost use Rattle.hcc_rule.specs.Views.{is_seated};
 ghost use Rattle.hcc_charge.specs.declared.reserving.Refused.{Refused};
 ghost use Rattle.hcc_charge.specs.declared.reserving.Reservation.TheVariants.{Reserved};
 ghost use Rattle.hcc_table.specs.declared.optimistic.Got.{Got};
@@ -28,6 +39,7 @@ ghost use Rattle.hcc_cache.specs.declared.config.Config.{Config};
 ghost use Rattle.hcc_cache.specs.declared.errors.InsertError.{InsertError};
 ghost use Rattle.hcc_cache.specs.declared.handle.Handle.{Handle};
 ghost use Rattle.hcc_cache.specs.declared.inserting.Inserted.{Inserted};
+ghost use Rattle.hcc_cache.specs.declared.inserting.Inserted.TheVariants.{Placed};
 ghost use Rattle.hcc_cache.specs.declared.priority.Priority.{Priority};
 ghost use Rattle.hcc_cache.specs.declared.seeded.Seeded.{Seeded};
 ghost use Rattle.hcc_cache.specs.declared.holding.Hold.{Hold};
@@ -36,19 +48,23 @@ ghost use Rattle.hcc_cache.specs.Clients.{view_at, Held, Holds};
 ghost use Rattle.hcc_cache.specs.Configs.{shard_capacity};
 ghost use Rattle.hcc_shard.specs.Gets.{GotLasting};
 ghost use Rattle.hcc_cache.specs.Gets.{GetsAt};
-ghost use Rattle.hcc_cache.specs.Inserts.{draft_of, InsertsAt, PinsAt, ShowsAs, ShowsPinnedAs, StoresAt};
+ghost use Rattle.hcc_cache.specs.Images.{Visible};
+ghost use Rattle.hcc_cache.specs.Inserts.{draft_of, InsertsAt, InsertsAtListed, InsertsPinnedAtListed, PinsAt, ShowsAs, ShowsPinnedAs, StoresAt};
 ghost use Rattle.hcc_cache.specs.Keys.{fits_seeded};
 ghost use Rattle.hcc_cache.specs.Known.{Knows};
-ghost use Rattle.hcc_cache.specs.Moments.{IsMoment, KnowsShown, plan_in};
+ghost use Rattle.hcc_cache.specs.Moments.{plan_in, HoldsAsShown, IsAsShown, IsMoment, IsRunning, KnowsShown};
 ghost use Rattle.hcc_cache.specs.Opened.{IsCacheOf};
+ghost use Rattle.hcc_cache.specs.Reopened.{IsReopened};
 ghost use Rattle.hcc_cache.specs.Room.{HasRoom, HasRoomBeside, KeepsAs, KeepsPinnedAs, TurnsNone};
 ghost use Rattle.hcc_cache.specs.Sharding.{key_to, shard_of};
+ghost use Rattle.hcc_cache.specs.Since.{GoesOnAt, IsTakenByOther, IsTakenSince};
 ghost use Rattle.hcc_cache.specs.Stays.{BeganEachWithin, ReleasesIn, ReleasesPin, Stays, StaysWhereStanding};
+ghost use Rattle.hcc_cache.specs.Taken.{split_of};
 ghost use Rattle.hcc_cache.specs.Totals.{occupancy_in, usage_in, KnowsEach, LoadsEachOccupancy, LoadsEachUsage};
 
 use crate::seeded::Seeded;
 use hcc_rule::Tag;
-use hcc_rule::laws::{law_ledgers, law_made};
+use hcc_rule::laws::{law_ledgers, law_made, law_run, law_slots};
 use hcc_table::laws::{
     law_found_alone, law_hidden_alone, law_inserted_alone, law_lasting, law_room_alone,
     law_told_alone,
@@ -113,6 +129,63 @@ pub fn law_insertions<T: Tag>()
     law_made::<Seeded<T>>();
 }
 
+/// References, and the entries that they keep.
+pub fn law_references<T: Tag>()
+    // In a slot with an entry, acquires less releases are the references that clients hold there.
+    ensures counted { (config : Config) (tag : T) (s : StateOf (Seeded T))
+        (m : IsMoment T.fits config tag s) (slot : ℕ) → slot < config.slots
+        → has_entry (plan_in m) s slot ≡ true
+        → references_counted (plan_in m) s slot ≡ references_held (plan_in m) s slot }
+
+    // The words of a slot are those of the entry of each reference there: while a client holds an
+    // entry, its slot has that entry.
+    ensures entries { (config : Config) (tag : T) (s : StateOf (Seeded T))
+        (m : IsMoment T.fits config tag s) (slot number : ℕ) (v : View (Seeded T))
+        → slice_get s.views number ≡ Some v → HasWordsOfRecords (plan_in m) s slot v }
+{
+    law_slots::<Seeded<T>>();
+}
+
+/// The events of each shard of a cache: its words show, between any two steps of any threads, the
+/// world to which a run of the protocol's machine leads.
+pub fn law_history<T: Tag>()
+    // The machine allows the events of the history one after another, each with the reply that
+    // stands there, from the world that the shard began with to the world that its words show.
+    ensures run { (config : Config) (tag : T) (s : LoggedStateOf (Seeded T))
+        (m : IsRunning T.fits config tag s)
+        → IsRun (begun_world (plan_in m.moment)) m.holds.history m.holds.rule.world }
+
+    // Each seat knows a front of it, behind which come only steps of other clients, with starts and
+    // ends,
+    ensures fronts { (config : Config) (tag : T) (s : LoggedStateOf (Seeded T))
+        (m : IsRunning T.fits config tag s) (number : ℕ) (l : Logged (Seeded T))
+        → slice_get s.views number ≡ Some l
+        → IsFront (plan_in m.moment).geometry.clients m.holds.history l }
+
+    // and some seat knows all of it except starts and ends that came since.
+    ensures known { (config : Config) (tag : T) (s : LoggedStateOf (Seeded T))
+        (m : IsRunning T.fits config tag s) → IsKnown m.holds.history s.views }
+
+    // Each entry is what its maker's show of its stamp gave.
+    ensures entries { (config : Config) (tag : T) (s : LoggedStateOf (Seeded T))
+        (m : IsRunning T.fits config tag s) (slot : ℕ) (entry : Entry)
+        → entry_at m.holds.rule.world slot ≡ Some entry
+        → IsAsShown (plan_in m.moment) m.holds.history entry }
+
+    // What a client holds at one moment it holds at each later one, on that slot and entry, unless
+    // an event of its own between them gave or used the reference, or freed its slot, by its name.
+    ensures kept { (config : Config) (tag : T) (s t : LoggedStateOf (Seeded T))
+        (m : IsRunning T.fits config tag s)
+        (later : HoldsLogged (fits_seeded T.fits) (plan_in m.moment) t) (since : List Done)
+        → later.history ≡ m.holds.history ++ since → (number : ℕ) (l : Logged (Seeded T))
+        → slice_get s.views number ≡ Some l → is_seated l.known ≡ true
+        → (name : ℕ) (r : Record) → record_in name l.known.records ≡ Some r
+        → list_any (takes_away l.known.client name) (events_of since) ≡ false
+        → held_at later.rule.world l.known.client name r.slot ≡ Some r.entry }
+{
+    law_run::<Seeded<T>>();
+}
+
 /// A look-up finds what stands, whatever other clients do meanwhile.
 pub fn law_lookups<T: Tag>()
     // One that misses: each slot of the key's shard lacks a visible entry of the key at some moment
@@ -131,6 +204,24 @@ pub fn law_lookups<T: Tag>()
         (before after : List ℕ) (old new : Client T)
         (h : GetsAt cache T.fits key useful got before after old new)
         → GotLasting h.shard (key_to cache.seed key) got before after h.was h.is }
+
+    // What it finds is what its maker showed: that show is in what the client knows.
+    ensures made { (cache : Cache T) (key : Key) (handle : Handle) (old new : Client T)
+        (h : SearchesFor cache T.fits key (Some handle) old new)
+        → HoldsAsShown h.shard (key_to cache.seed key) old.used h.is }
+
+    // One that misses what its client knew to be shown: another client hid that entry, or freed its
+    // slot, and until then the slot showed it. The entries with which the shards began kept their
+    // limits, as they do in each cache that is opened.
+    ensures taken { (cache : Cache T) → BeganEachWithin cache T.fits → (key : Key)
+        (old new : Client T) → Knows cache old → SearchesFor cache T.fits key None old new
+        → (k : KnowsShown cache key old) → IsTakenByOther cache key old new k }
+
+    // So it is of a read by a key that misses.
+    ensures untold { (cache : Cache T) → BeganEachWithin cache T.fits → (key : Key)
+        (useful : Bool) (before after : List ℕ) (old new : Client T) → Knows cache old
+        → GetsAt cache T.fits key useful Miss before after old new
+        → (k : KnowsShown cache key old) → IsTakenByOther cache key old new k }
 
     // In a cache of one client a look-up misses where the world that the client knows of the shard
     // when the call begins shows the key in no slot, else it finds the slot of the earliest probe
@@ -167,6 +258,48 @@ pub fn law_lookups<T: Tag>()
     law_lasting::<Seeded<T>, Global>();
     law_found_alone::<Seeded<T>, Global>();
 }
+
+/// What a client knows to be shown, with any number of clients: it stays shown until an event hides
+/// it, or frees its slot.
+///
+/// The entries with which the shards began keep their limits, as they do in each cache that is
+/// opened, new or with an image.
+pub fn law_shown_since<T: Tag>()
+    // What the client knows of the key's shard goes on by events, its own and those of others: it
+    // knows the key to be shown still, or one of these events took the entry away.
+    ensures since { (cache : Cache T) → BeganEachWithin cache T.fits → (key : Key)
+        (old new : Client T) (g : GoesOnAt (shard_in cache key) old new)
+        (k : KnowsShown cache key old)
+        → KnowsShown cache key new ⊎ IsTakenSince cache key old k g.more }
+
+    // After a call that makes and takes no entry, and shows and hides none, as those that
+    // `law_kept_shown` names, that event is another client's.
+    ensures stays { (cache : Cache T) → BeganEachWithin cache T.fits → (key : Key)
+        (old new : Client T) → Knows cache old → Stays cache old new
+        → (k : KnowsShown cache key old)
+        → KnowsShown cache key new ⊎ IsTakenByOther cache key old new k }
+
+    // What an insertion placed is known to be shown,
+    ensures placed { (cache : Cache T) → BeganEachWithin cache T.fits → (key : Key)
+        (charge : ℕ) (priority : Priority) (had has : Bool) (old new : Client T)
+        → Knows cache old
+        → InsertsAtListed cache T.fits key charge priority had has (Ok Placed) old new
+        → KnowsShown cache key new }
+
+    // and so is that of one that gives a handle.
+    ensures placed_pinned { (cache : Cache T) → BeganEachWithin cache T.fits → (key : Key)
+        (charge : ℕ) (priority : Priority) (had has : Bool) (old new : Client T)
+        → Knows cache old
+        → InsertsPinnedAtListed cache T.fits key charge priority had has Placed old new
+        → KnowsShown cache key new }
+
+    // What a cache took of an image is known to be shown, to each client that begins with it.
+    ensures reopened { (config : Config) (tag : T) (image : List Visible) (cache : Cache T)
+        (clients : List (Client T)) → IsReopened T.fits config tag image cache clients
+        → (index : ℕ) (e : Visible) → slice_get (split_of config image).taken index ≡ Some e
+        → (number : ℕ) (client : Client T) → slice_get clients number ≡ Some client
+        → KnowsShown cache e.key client }
+{}
 
 /// In a cache of one client an erasure hides exactly what is shown of the key.
 pub fn law_erasures<T: Tag>()

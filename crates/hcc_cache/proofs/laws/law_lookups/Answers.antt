@@ -14,6 +14,8 @@ use Rattle.hcc_shard.specs.declared.shard.Shard.{Shard}
 use Rattle.hcc_shard.specs.Gets.{GotLasting, GotShown}
 use Rattle.hcc_shard.proofs.Gettings.{gets_lasting}
 use Rattle.hcc_cache.specs.Sharding.{key_to}
+use Rattle.hcc_cache.proofs.Clients.ShownSince.{missed_taken, none_taken}
+use Rattle.hcc_cache.proofs.Searches.FoundAsMade.{handle_made}
 use Rattle.hcc_cache.proofs.laws.law_lookups.Goals as goal
 
 -- With one client a read by a key misses exactly where no slot shows the key when it begins.
@@ -105,3 +107,22 @@ returns-clause-there g c = λ config tag cache is_of one key found old new h k.
     (subst (λ s. ShowsKey (world_at s.table h.was.seat) (key_to cache.seed key) k.slot) shard
     (subst (λ (q : ShardSeat _). ShowsKey (world_at k.shard.table q.seat) (key_to cache.seed key)
     k.slot) was k.shows)))
+
+pub returns-clause-made : goal.returns-clause-made
+returns-clause-made g c = λ cache key handle old new h.
+    handle_made h.shard (key_to cache.seed key) old.used h.did.0 h.was h.is h.did.1
+    (c.law_lasting.ensures h.shard.table (key_to cache.seed key) old.used h.shard.marks h.did.0
+    h.was.effort h.is.effort h.was.seat h.is.seat h.did.2)
+
+pub returns-clause-taken : goal.returns-clause-taken
+returns-clause-taken g c = λ cache began key old new knows h k.
+    none_taken g.T.Tag.fits cache began key old k new knows h.shard h.was h.is h.shard_is
+    h.seat_was h.seat_is old.used h.did.0 h.did.1
+    (c.law_lasting.ensures h.shard.table (key_to cache.seed key) old.used h.shard.marks h.did.0
+    h.was.effort h.is.effort h.was.seat h.is.seat h.did.2)
+
+pub returns-clause-untold : goal.returns-clause-untold
+returns-clause-untold g c = λ cache began key useful before after old new knows h k.
+    missed_taken g.T.Tag.fits cache began key old k new knows h.shard h.was h.is h.shard_is
+    h.seat_was h.seat_is
+    (gets_lasting _ h.shard (key_to cache.seed key) useful Miss before after h.was h.is h.did)

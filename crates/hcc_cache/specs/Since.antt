@@ -1,0 +1,41 @@
+-- What a client knows of a shard later, and what of it was taken away since.
+use Rattle.std.specs.Prelude.{◌≡◌, ◌≢◌, ℕ, List, ◌++◌, Some, slice_get}
+use Rattle.hcc_core.specs.declared.slot.Entry.{Entry}
+use Rattle.hcc_rule.specs.declared.key.Key.{Key}
+use Rattle.hcc_rule.specs.declared.view.Done.{Done}
+use Rattle.hcc_rule.specs.Acts.{client_by}
+use Rattle.hcc_rule.specs.Callers.{world_at}
+use Rattle.hcc_rule.specs.Shown.{IsTakenAway}
+use Rattle.hcc_rule.specs.Words.{key_of}
+use Rattle.hcc_shard.specs.declared.seat.ShardSeat.{ShardSeat}
+use Rattle.hcc_shard.specs.Ended.{past_of}
+use Rattle.hcc_cache.specs.declared.cache.Cache.{Cache}
+use Rattle.hcc_cache.specs.declared.client.Client.{Client}
+use Rattle.hcc_cache.specs.declared.seeded.Seeded.{Seeded}
+use Rattle.hcc_cache.specs.Calls.{shard_in}
+use Rattle.hcc_cache.specs.Moments.{KnowsShown}
+use Rattle.hcc_cache.specs.Sharding.{key_to}
+
+-- What the client knows of the shard of this number goes on by these events, whoever made them.
+pub record GoesOnAt {T : Type 0} (number : ℕ) (old new : Client T) : Type 0 where
+  pub was : ShardSeat (Seeded T)
+  pub is : ShardSeat (Seeded T)
+  pub seat_was : slice_get old.seats.items number ≡ Some was
+  pub seat_is : slice_get new.seats.items number ≡ Some is
+  pub more : List Done
+  pub goes_on : past_of is ≡ past_of was ++ more
+
+module _ {T : Type 0} (cache : Cache T) (key : Key) where
+  -- One of these events took away the entry of the key that the client knew to be shown: a hide by
+  -- a reference on its slot, or a free of that. Until then the slot showed the entry.
+  pub record IsTakenSince (old : Client T) (k : KnowsShown cache key old) (more : List Done)
+      : Type 0 where
+    pub entry : Entry
+    pub asked : key_of entry ≡ key_to cache.seed key
+    pub taken : IsTakenAway k.slot entry (world_at k.shard.table k.seat.seat) more
+
+  -- So it was, by an event of another client, among those by which what the client knows went on.
+  pub record IsTakenByOther (old new : Client T) (k : KnowsShown cache key old) : Type 0 where
+    pub goes : GoesOnAt (shard_in cache key) old new
+    pub since : IsTakenSince old k goes.more
+    pub other : client_by since.taken.done.event ≢ old.number
