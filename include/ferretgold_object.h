@@ -271,6 +271,15 @@ ferretgold_status ferretgold_object_insert_pinned(ferretgold_object_cache *cache
 ferretgold_status ferretgold_object_erase(ferretgold_object_cache *cache,
                                           const ferretgold_key *key, uint32_t *hidden);
 
+/* ---- Totals ---------------------------------------------------------------------------------- */
+
+/* What ferretgold_usage, ferretgold_pinned_usage and ferretgold_occupancy say, in as many steps. An
+ * entry whose handle waits on a queue is held; what stands alone and isn't in the usage is in none
+ * of the three. They refuse NO_CLIENT. */
+ferretgold_status ferretgold_object_usage(ferretgold_object_cache *cache, uint64_t *usage);
+ferretgold_status ferretgold_object_pinned_usage(ferretgold_object_cache *cache, uint64_t *usage);
+ferretgold_status ferretgold_object_occupancy(ferretgold_object_cache *cache, uint64_t *occupancy);
+
 #ifdef __cplusplus
 }
 #endif

@@ -552,3 +552,32 @@ ferretgold_status ferretgold_object_collect(ferretgold_object_cache *cache) {
     relieve_all(cache);
     return FERRETGOLD_OK;
 }
+
+/* ---- Totals ---------------------------------------------------------------------------------- */
+
+/* Has a client tell one of its totals. */
+static ferretgold_status told(ferretgold_object_cache *cache,
+                              uint64_t (*total)(ferretgold_object *client), uint64_t *number) {
+    if (cache == NULL || number == NULL) {
+        return FERRETGOLD_NULL;
+    }
+    object_cell *it = enter(cache);
+    if (it == NULL) {
+        return FERRETGOLD_NO_CLIENT;
+    }
+    *number = total(&it->in_use->session);
+    return leave(it, FERRETGOLD_OK);
+}
+
+ferretgold_status ferretgold_object_usage(ferretgold_object_cache *cache, uint64_t *usage) {
+    return told(cache, ferretgold_raw_object_usage, usage);
+}
+
+ferretgold_status ferretgold_object_pinned_usage(ferretgold_object_cache *cache, uint64_t *usage) {
+    return told(cache, ferretgold_raw_object_pinned_usage, usage);
+}
+
+ferretgold_status ferretgold_object_occupancy(ferretgold_object_cache *cache,
+                                              uint64_t *occupancy) {
+    return told(cache, ferretgold_raw_object_occupancy, occupancy);
+}

@@ -192,6 +192,42 @@ static void walk(void) {
     EXPECT(ferretgold_object_close(cache), FERRETGOLD_OK);
 }
 
+/* What is charged, what of that is held or stands alone, and how many entries there are. */
+static void expect_totals(ferretgold_object_cache *cache, uint64_t usage, uint64_t pinned,
+                          uint64_t occupancy) {
+    uint64_t is[3] = {99, 99, 99};
+    EXPECT(ferretgold_object_usage(cache, &is[0]), FERRETGOLD_OK);
+    EXPECT(ferretgold_object_pinned_usage(cache, &is[1]), FERRETGOLD_OK);
+    EXPECT(ferretgold_object_occupancy(cache, &is[2]), FERRETGOLD_OK);
+    EXPECT(is[0], usage);
+    EXPECT(is[1], pinned);
+    EXPECT(is[2], occupancy);
+}
+
+static void totals(void) {
+    journal log = {0};
+    ferretgold_object_config config = small_cache();
+    config.shards = 2;
+    ferretgold_object_cache *cache = opened(&config, note, &log);
+    const ferretgold_key key = key_of(1);
+    const ferretgold_object_handle *alone = NULL;
+    expect_totals(cache, 0, 0, 0);
+    for (unsigned k = 0; k < 3; k++) {
+        EXPECT(insert(cache, k, NULL, 5 + k), FERRETGOLD_PLACED);
+    }
+    const ferretgold_object_handle *handle = held(cache, 1);
+    expect_totals(cache, 18, 6, 3);
+    EXPECT(ferretgold_object_insert_pinned(cache, &key, NULL, 1, 9, FERRETGOLD_LOW, NULL, &alone),
+           FERRETGOLD_OK);
+    EXPECT(erase(cache, 1), 1);
+    expect_totals(cache, 27, 15, 3);
+    EXPECT(released(cache, handle), true);
+    expect_totals(cache, 21, 9, 2);
+    EXPECT(released(cache, alone), true);
+    expect_totals(cache, 12, 0, 2);
+    EXPECT(ferretgold_object_close(cache), FERRETGOLD_OK);
+}
+
 /* ---- Refusals -------------------------------------------------------------------------------- */
 
 /* Each insertion's arguments, and what refuses them, in this order. */
@@ -256,6 +292,9 @@ static void null_pointers(void) {
     EXPECT(ferretgold_object_insert_pinned(cache, &key, NULL, 1, 0, 0, NULL, NULL),
            FERRETGOLD_NULL);
     EXPECT(ferretgold_object_erase(cache, NULL, NULL), FERRETGOLD_NULL);
+    EXPECT(ferretgold_object_usage(cache, NULL), FERRETGOLD_NULL);
+    EXPECT(ferretgold_object_pinned_usage(cache, NULL), FERRETGOLD_NULL);
+    EXPECT(ferretgold_object_occupancy(NULL, &(uint64_t){0}), FERRETGOLD_NULL);
     EXPECT(ferretgold_object_memory(NULL), 0);
     EXPECT(ferretgold_object_close(cache), FERRETGOLD_OK);
 }
@@ -424,7 +463,7 @@ typedef struct guest {
     ferretgold_object_cache *cache;
     const ferretgold_object_handle *handle;
     unsigned deleted;
-    int looked, put, closed;
+    int looked, put, closed, counted;
 } guest;
 
 /* Looks the key up that it is given, and puts its object back in. */
@@ -434,6 +473,7 @@ static void come_back(void *context, const ferretgold_key *key, void *object, ui
     it->deleted += 1;
     it->looked = ferretgold_object_lookup(it->cache, key, &it->handle);
     it->closed = ferretgold_object_close(it->cache);
+    it->counted = ferretgold_object_usage(it->cache, &(uint64_t){0});
     if (it->deleted == 1) {
         it->put = insert(it->cache, key->w0, object, 10);
         (void)released(it->cache, held(it->cache, key->w0));
@@ -443,18 +483,19 @@ static void come_back(void *context, const ferretgold_key *key, void *object, ui
 }
 
 static void coming_back(void) {
-    guest it = {NULL, NULL, 0, 0, 0, 0};
+    guest it = {NULL, NULL, 0, 0, 0, 0, 0};
     const ferretgold_object_config config = small_cache();
     it.cache = opened(&config, come_back, &it);
     EXPECT(insert(it.cache, 1, &it, 10), FERRETGOLD_PLACED);
     EXPECT(erase(it.cache, 1), 1);
-    EXPECT(it.deleted == 1 && it.looked == FERRETGOLD_MISS, true);
+    EXPECT(it.deleted == 1 && it.looked == FERRETGOLD_MISS && it.counted == FERRETGOLD_OK, true);
     EXPECT(it.put == FERRETGOLD_PLACED && it.closed == FERRETGOLD_CLIENTS_OUT, true);
     const ferretgold_object_handle *handle = held(it.cache, 1);
     EXPECT(handle->object == &it, true);
     (void)released(it.cache, handle);
     EXPECT(ferretgold_object_close(it.cache), FERRETGOLD_OK);
     EXPECT(it.deleted == 2 && it.looked == FERRETGOLD_MISS, true);
+    EXPECT(it.counted, FERRETGOLD_NO_CLIENT);
     EXPECT(it.put == FERRETGOLD_DROPPED && it.closed == FERRETGOLD_CLIENTS_OUT, true);
 }
 
@@ -514,6 +555,7 @@ static void object_rows(void) {
     twice();
     alone();
     walk();
+    totals();
     refused_after_evictions();
     many_handles();
     many_serials();

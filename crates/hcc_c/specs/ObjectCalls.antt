@@ -1,8 +1,9 @@
 -- What each call of a client of a cache of objects comes to: what it answers, and what it leaves of
 -- the session.
-use Rattle.std.specs.Prelude.{◌≡◌, ℕ, ◌+◌, ◌*◌, ◌<◌, ◌≤◌, ◌^◌, ◌++◌, ◌∷◌, [], ◌↔◌, Bool, true, Option, Result, Err, IfOk, IfErr, IfSome, IfNone, None, Ok, OnOk, OnErr, IsOk, IsErrOf, MatchResult}
+use Rattle.std.specs.Prelude.{◌≡◌, ℕ, ◌+◌, ◌*◌, ◌/◌, ◌<◌, ◌≤◌, ◌^◌, ◌++◌, ◌∷◌, [], ◌↔◌, Bool, true, Option, Result, Err, IfOk, IfErr, IfSome, IfNone, None, Ok, OnOk, OnErr, IsOk, IsErrOf, MatchResult, length}
 use Rattle.std.specs.Arc.{arc_value}
 use Rattle.hcc_word.specs.declared.objects.TheConstants.{ADDRESS_BITS}
+use Rattle.hcc_core.specs.declared.limits.TheConstants.{OCCUPANCY_PERCENT}
 use Rattle.hcc_rule.specs.declared.key.Key.{Key}
 use Rattle.hcc_table.specs.declared.lists.Freed.{Freed}
 use Rattle.hcc_table.specs.AtSlots.{takes_one}
@@ -18,12 +19,13 @@ use Rattle.hcc_cache.specs.declared.object_inserting.Placing.{Placing}
 use Rattle.hcc_cache.specs.declared.object_walking.HeldObject.{HeldObject}
 use Rattle.hcc_cache.specs.declared.objects.Object.{Object}
 use Rattle.hcc_cache.specs.declared.priority.Priority.{Priority}
-use Rattle.hcc_cache.specs.Calls.{CountsAt, Erases, ErasesListed, Finds, GivesUpWith, HandsAt, Misses, Reads, Releases, Rerefs, TakesAtMost, shard_in}
+use Rattle.hcc_cache.specs.Calls.{CountsAt, CountsNone, Erases, ErasesListed, Finds, GivesUpWith, HandsAt, KeepsAll, Misses, Reads, Releases, Rerefs, TakesAtMost, shard_in}
 use Rattle.hcc_cache.specs.Clients.{held_by, held_of}
 use Rattle.hcc_cache.specs.Keys.{key_from}
 use Rattle.hcc_cache.specs.ObjectInserts.{FailsObject, InsertsObject, MayInsert, MayStand, PinsObject, answer_as, is_full, placed_as, refused_as}
 use Rattle.hcc_cache.specs.Objects.{HandsBack, alone_of, gone_of, is_word, object_bytes, object_of, places_left, shelf_of}
 use Rattle.hcc_cache.specs.Stays.{Stays}
+use Rattle.hcc_cache.specs.Totals.{CountsEach, LoadsEachOccupancy, LoadsEachUsage, LoadsUsages, SearchesAll, charge_by, entries_by, made_by, taken_by}
 use Rattle.hcc_cache.specs.Walked.{HoldsAt, IsSlotIn, PassesAt}
 use Rattle.hcc_c.specs.declared.inserting.Unfit.{Unfit}
 use Rattle.hcc_c.specs.declared.object_session.ObjectSession.{ObjectSession}
@@ -159,6 +161,47 @@ pub record TellsCharge (c_handle : CHandle) (answer : Option ℕ) (old new : Obj
   pub list : new.client.gone ≡ old.client.gone
   pub rest : Keeps old.counts old new
   pub steps : Within 1 old new
+
+-- how many shards there are
+abbrev pub shards_in : ObjectSession → ℕ
+shards_in session = length (below session).shards.items
+
+-- What is charged in all shards.
+pub record TellsUsage (usage : ℕ) (old new : ObjectSession) : Type 0 where
+  pub keeps : KeepsAll (below old) (client_in old) (client_in new)
+  pub views : LoadsUsages (client_in old) (client_in new)
+  pub loads : LoadsEachUsage (below old) usage (client_in old) (client_in new)
+  pub entries : charge_by (client_in old) ≤ usage
+  pub strict : (below old).strict ≡ true → usage ≤ shards_in old * (below old).capacity
+  pub counts : CountsNone (client_in old) (client_in new)
+  pub list : new.client.gone ≡ old.client.gone
+  pub rest : Keeps old.counts old new
+  pub steps : Within (shards_in old) old new
+
+-- What is charged for entries that are held, and for standalone ones.
+pub record TellsPinned (usage : ℕ) (old new : ObjectSession) : Type 0 where
+  pub keeps : KeepsAll (below old) (client_in old) (client_in new)
+  pub views : SearchesAll (client_in old) (client_in new)
+  pub entries : charge_by (client_in old) ≤ usage
+  pub alone : (below old).geometry.clients ≡ 1 → usage ≡ charge_by (client_in old)
+  pub loads : CountsEach (below old) is_word usage (client_in old) (client_in new)
+  pub stays : Stays (below old) (client_in old) (client_in new)
+  pub list : new.client.gone ≡ old.client.gone
+  pub rest : Keeps old.counts old new
+  pub steps : Within (shards_in old * (5 * (below old).geometry.slots + 1)) old new
+
+-- How many entries all shards have.
+pub record TellsOccupancy (occupancy : ℕ) (old new : ObjectSession) : Type 0 where
+  pub reads : Reads (below old) (client_in old) (client_in new)
+  pub entries : entries_by (client_in old) ≤ occupancy
+  pub alone : (below old).geometry.clients ≡ 1
+      → occupancy + taken_by (client_in old) ≡ made_by (client_in old)
+  pub high : occupancy ≤ shards_in old * ((below old).geometry.slots
+      * OCCUPANCY_PERCENT / 100 + (below old).geometry.clients)
+  pub loads : LoadsEachOccupancy (below old) occupancy (client_in old) (client_in new)
+  pub list : new.client.gone ≡ old.client.gone
+  pub rest : Keeps old.counts old new
+  pub steps : Within (shards_in old) old new
 
 module _ (key : Key) (object : Object) (charge : ℕ) (priority : Priority) where
   -- how many steps an insertion takes at most

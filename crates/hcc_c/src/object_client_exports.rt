@@ -4,7 +4,7 @@
 ghost use Rattle.std.specs.Prelude.{◌≡◌, None, IfSome};
 ghost use Rattle.hcc_c.specs.Answers.{key_or, more_of, status_of, status_of_reref, value_or};
 ghost use Rattle.hcc_c.specs.ObjectAnswers.{full_of, full_of_pinned, gone_key_or, gone_object_or, handle_found, handle_of_pinned, held_or, object_found, placing_of, placing_of_pinned, status_of_found, status_of_gone, status_of_held, status_of_pinned, status_of_put};
-ghost use Rattle.hcc_c.specs.ObjectCalls.{GivesBack, Hides, LooksUp, PinsAt, Puts, PutsPinned, RefersAgain, TakesGone, TellsCharge, TellsKey};
+ghost use Rattle.hcc_c.specs.ObjectCalls.{GivesBack, Hides, LooksUp, PinsAt, Puts, PutsPinned, RefersAgain, TakesGone, TellsCharge, TellsKey, TellsOccupancy, TellsPinned, TellsUsage};
 ghost use Rattle.hcc_c.specs.ObjectLending.{IsThere};
 ghost use Rattle.hcc_c.specs.ObjectSessions.{IsWhole};
 ghost use Rattle.hcc_c.specs.ObjectShapes.{object_of};
@@ -224,4 +224,34 @@ pub extern "C" fn ferretgold_raw_object_charge(
 {
     let answer = client.session().charge(*handle);
     told(answer, Refusal::NoHandle, charge)
+}
+
+#[unsafe(no_mangle)]
+pub extern "C" fn ferretgold_raw_object_usage(client: &mut ObjectClientAt) -> u64
+    requires { IsWhole client.old.value }
+    ensures there { IsThere client.old client.new }
+    ensures whole { IsWhole client.new.value }
+    ensures tells { TellsUsage result client.old.value client.new.value }
+{
+    client.session().usage()
+}
+
+#[unsafe(no_mangle)]
+pub extern "C" fn ferretgold_raw_object_pinned_usage(client: &mut ObjectClientAt) -> u64
+    requires { IsWhole client.old.value }
+    ensures there { IsThere client.old client.new }
+    ensures whole { IsWhole client.new.value }
+    ensures tells { TellsPinned result client.old.value client.new.value }
+{
+    client.session().pinned_usage()
+}
+
+#[unsafe(no_mangle)]
+pub extern "C" fn ferretgold_raw_object_occupancy(client: &mut ObjectClientAt) -> u64
+    requires { IsWhole client.old.value }
+    ensures there { IsThere client.old client.new }
+    ensures whole { IsWhole client.new.value }
+    ensures tells { TellsOccupancy result client.old.value client.new.value }
+{
+    client.session().occupancy()
 }

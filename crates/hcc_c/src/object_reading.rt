@@ -1,5 +1,5 @@
 //! What a client of a cache of objects reads.
-ghost use Rattle.hcc_c.specs.ObjectCalls.{TellsCharge, TellsKey};
+ghost use Rattle.hcc_c.specs.ObjectCalls.{TellsCharge, TellsKey, TellsOccupancy, TellsPinned, TellsUsage};
 ghost use Rattle.hcc_c.specs.ObjectSessions.{IsWhole};
 
 use crate::object_session::ObjectSession;
@@ -26,5 +26,32 @@ impl ObjectSession {
     {
         let handle = self.handle(c_handle)?;
         Some(self.cache.charge(&mut self.client, handle))
+    }
+
+    /// What is charged in all shards.
+    pub fn usage(&mut self) -> u64
+        requires { IsWhole self.old }
+        ensures whole { IsWhole self.new }
+        ensures tells { TellsUsage result self.old self.new }
+    {
+        self.cache.usage(&mut self.client)
+    }
+
+    /// What is charged for entries that are held, and for standalone ones.
+    pub fn pinned_usage(&mut self) -> u64
+        requires { IsWhole self.old }
+        ensures whole { IsWhole self.new }
+        ensures tells { TellsPinned result self.old self.new }
+    {
+        self.cache.pinned_usage(&mut self.client)
+    }
+
+    /// How many entries all shards have.
+    pub fn occupancy(&mut self) -> u64
+        requires { IsWhole self.old }
+        ensures whole { IsWhole self.new }
+        ensures tells { TellsOccupancy result self.old self.new }
+    {
+        self.cache.occupancy(&mut self.client)
     }
 }
