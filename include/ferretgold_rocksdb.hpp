@@ -36,13 +36,15 @@
 //   more entries than 2,900,000 don't fit. 64 clients serve as many threads that make calls at
 //   once, and more, but not well. What isn't slots takes 2 of a hundred of a capacity from 160 MiB
 //   on, which goes to handles (1,700 for each client where the capacity is 1 GiB), 5 of 64 MiB, and
-//   some 700 KB at least. Where metadata is charged it counts with the usage, at most half of the
-//   capacity.
+//   some 700 KB at least. Where metadata is charged it counts with the usage: the slots, which take
+//   three quarters of the capacity at most, and of the rest what leaves half of it.
 //
 // TOTALS
-//   GetUsage and GetOccupancyCount walk over all slots, which takes milliseconds in a large cache.
-//   They count what a look-up could find: not what was erased and is held, nor what goes with its
-//   handle. GetPinnedUsage isn't known, and 0.
+//   They are those of ferretgold_object.h, without what SetCapacity inserts. GetUsage and
+//   GetPinnedUsage also count what was erased and is held, and what goes with its handle; where
+//   metadata is charged, GetPinnedUsage a slot for as many entries of the estimated charge, too.
+//   GetUsage and GetOccupancyCount load a word of each shard, GetPinnedUsage one of each slot, which
+//   takes milliseconds in a large cache.
 //
 // CAPACITY
 //   SetCapacity lowers it by entries of no use, which stand for what isn't to be used, and erases
@@ -159,10 +161,14 @@ class rocksdb_sizes {
                      options.num_shard_bits);
         choose_handles();
         if (is_charged_) {
-            charged = std::min(ferretgold_object_memory(&config) + object_, capacity_ / 2);
+            const std::uint64_t all = ferretgold_object_memory(&config) + object_;
+            charged = std::max(slots_size(), std::min(all, capacity_ / 2));
+            charged = std::min(charged, most_slots_size());
         }
         config.capacity = std::max<std::uint64_t>(capacity_ - charged, 1);
     }
+
+    static constexpr std::uint64_t SLOT = 64;
 
     ferretgold_object_config config = FERRETGOLD_OBJECT_CONFIG;
     std::uint64_t charged = 0; // of the table and the rest, which counts with the usage
@@ -170,10 +176,15 @@ class rocksdb_sizes {
   private:
     static constexpr std::uint32_t FEWEST_SLOTS = 8, MOST_SLOTS = 65536, MOST_SHARDS = 64;
     static constexpr std::uint32_t FEWEST_HANDLES = 32, MOST_HANDLES = 16384;
-    static constexpr std::uint64_t SLOT = 64, MEBIBYTE = 1 << 20;
+    static constexpr std::uint64_t MEBIBYTE = 1 << 20;
+
+    std::uint64_t slots_size() const noexcept { return SLOT * config.slots * config.shards; }
+
+    // Slots that are charged leave a quarter of the capacity to entries.
+    std::uint64_t most_slots_size() const noexcept { return capacity_ - (capacity_ + 3) / 4; }
 
     // Shards of 32 MiB or more, unless there are too many slots for so few; ten slots for seven
-    // entries. A table that is charged leaves half of the capacity to entries.
+    // entries.
     void choose_slots(std::uint64_t entry, int bits) noexcept {
         const std::uint64_t each = 7 * entry + (is_charged_ ? 10 * SLOT : 0);
         const std::uint64_t wanted = std::min(capacity_, UINT64_MAX / 10) * 10 / each;
@@ -183,13 +194,12 @@ class rocksdb_sizes {
                    || wanted / shards > MOST_SLOTS)) {
             shards *= 2;
         }
-        std::uint32_t slots = FEWEST_SLOTS;
-        while (slots < MOST_SLOTS && slots * std::uint64_t{shards} < wanted
-               && (!is_charged_ || 4 * SLOT * slots * shards <= capacity_)) {
-            slots *= 2;
-        }
         config.shards = shards;
-        config.slots = slots;
+        config.slots = FEWEST_SLOTS;
+        while (config.slots < MOST_SLOTS && config.slots * std::uint64_t{shards} < wanted
+               && (!is_charged_ || 2 * slots_size() <= most_slots_size())) {
+            config.slots *= 2;
+        }
     }
 
     // As many handles as fit in what may be taken beside the slots.
@@ -199,7 +209,7 @@ class rocksdb_sizes {
         const std::uint64_t with_one = ferretgold_object_memory(&config);
         config.handles = 2;
         const std::uint64_t one_more = ferretgold_object_memory(&config) - with_one;
-        const std::uint64_t others = with_one + object_ - SLOT * config.slots * config.shards;
+        const std::uint64_t others = with_one + object_ - slots_size();
         const std::uint64_t fits = most < others ? 0 : (most - others) / one_more;
         config.handles = static_cast<std::uint32_t>(
             std::min<std::uint64_t>(std::max<std::uint64_t>(fits, FEWEST_HANDLES), MOST_HANDLES));
@@ -320,9 +330,20 @@ class rocksdb_cache final : public rocksdb::Cache {
         });
     }
 
-    std::size_t GetUsage() const override { return metadata_ + counted().usage; }
-    std::size_t GetOccupancyCount() const override { return counted().entries; }
-    std::size_t GetPinnedUsage() const override { return 0; }
+    std::size_t GetUsage() const override {
+        return metadata_ + total(ferretgold_object_usage, ballast_charge_);
+    }
+
+    std::size_t GetPinnedUsage() const override {
+        (void)ferretgold_object_collect(cache_);
+        const std::size_t pinned = total(ferretgold_object_pinned_usage, ballast_charge_);
+        const std::size_t entries = pinned / entry_charge_ + (pinned % entry_charge_ != 0);
+        return pinned + std::min(entries, metadata_ / rocksdb_sizes::SLOT) * rocksdb_sizes::SLOT;
+    }
+
+    std::size_t GetOccupancyCount() const override {
+        return total(ferretgold_object_occupancy, ballast_entries_);
+    }
 
     std::size_t GetTableAddressCount() const override {
         return std::size_t{config_.shards} * config_.slots;
@@ -375,14 +396,10 @@ class rocksdb_cache final : public rocksdb::Cache {
         std::uint32_t charge;
     };
 
-    struct totals {
-        std::uint64_t usage;
-        std::uint64_t entries;
-    };
-
     explicit rocksdb_cache(const rocksdb::HyperClockCacheOptions &options)
         : rocksdb::Cache(options.memory_allocator), made_capacity_(options.capacity),
-          capacity_(options.capacity) {
+          capacity_(options.capacity),
+          entry_charge_(std::max<std::size_t>(options.estimated_entry_charge, 1)) {
         const rocksdb_sizes sizes(options, sizeof *this);
         metadata_ = static_cast<std::size_t>(sizes.charged);
         config_ = sizes.config;
@@ -502,23 +519,24 @@ class rocksdb_cache final : public rocksdb::Cache {
         }
     }
 
-    void count(std::uint32_t shard, totals &all) const {
-        for_each_in(shard, [&](const ferretgold_object_handle *it) {
-            if (it->kind != deleter_kinds::BALLAST) {
-                all.usage += it->charge;
-                all.entries += 1;
-            }
-            give_back(it);
-        });
+    // ---- Totals ----
+
+    // A total without what the ballast has of it. Where no client is to be had for long it is 0.
+    template <typename Total>
+    std::size_t total(Total tell, const std::atomic<std::uint64_t> &ballast) const {
+        std::uint64_t all = 0;
+        (void)patiently([&] { return tell(cache_, &all); });
+        return static_cast<std::size_t>(all - std::min(all, ballast.load()));
     }
 
-    // The place for totals that the library itself would give.
-    totals counted() const {
-        totals all{0, 0};
-        for (std::uint32_t shard = 0; shard < config_.shards; shard++) {
-            count(shard, all);
-        }
-        return all;
+    // The charges of a shard's entries that a look-up could find.
+    std::uint64_t usage_of(std::uint32_t shard) const {
+        std::uint64_t usage = 0;
+        for_each_in(shard, [&](const ferretgold_object_handle *it) {
+            usage += it->kind == deleter_kinds::BALLAST ? 0 : it->charge;
+            give_back(it);
+        });
+        return usage;
     }
 
     // ---- Ballast ----
@@ -534,18 +552,19 @@ class rocksdb_cache final : public rocksdb::Cache {
             (void)has_freed(it);
         }
         ballast_.clear();
+        ballast_charge_.store(0);
+        ballast_entries_.store(0);
     }
 
     // Erases entries of a shard that nobody holds while its usage is above a limit.
     void lower_usage(std::uint32_t shard, std::uint64_t limit) const {
-        totals all{0, 0};
-        count(shard, all);
+        std::uint64_t usage = usage_of(shard);
         for_each_in(shard, [&](const ferretgold_object_handle *it) {
             const std::uint64_t charge = it->charge;
-            if (it->kind == deleter_kinds::BALLAST || all.usage <= limit) {
+            if (it->kind == deleter_kinds::BALLAST || usage <= limit) {
                 give_back(it);
             } else if (has_freed(it)) {
-                all.usage -= std::min(all.usage, charge);
+                usage -= std::min(usage, charge);
             }
         });
     }
@@ -556,14 +575,17 @@ class rocksdb_cache final : public rocksdb::Cache {
         std::uint64_t piece = std::min<std::uint64_t>(charge, UINT32_MAX);
         while (piece > 0 && ballast_.size() < ballast_.capacity()) {
             const ferretgold_object_handle *held = nullptr;
+            ferretgold_inserted inserted = FERRETGOLD_PLACED;
             const ferretgold_status why = ferretgold_object_insert_pinned(
                 cache_, &key, nullptr, deleter_kinds::BALLAST, static_cast<std::uint32_t>(piece),
-                FERRETGOLD_HIGH, nullptr, &held);
+                FERRETGOLD_HIGH, &inserted, &held);
             if (why != FERRETGOLD_OK) {
                 piece /= 2;
                 continue;
             }
             ballast_.push_back(held);
+            ballast_charge_ += piece;
+            ballast_entries_ += inserted == FERRETGOLD_PLACED;
             charge -= piece;
             piece = std::min(piece, charge);
         }
@@ -601,9 +623,11 @@ class rocksdb_cache final : public rocksdb::Cache {
     deleter_kinds deleters_;
     const std::size_t made_capacity_;
     std::atomic<std::size_t> capacity_;
+    const std::size_t entry_charge_; // as estimated
     std::size_t metadata_ = 0;
     std::atomic<std::uint64_t> ids_{0};
     std::atomic<bool> is_disowned_{false};
+    std::atomic<std::uint64_t> ballast_charge_{0}, ballast_entries_{0};
 
     std::mutex changing_; // the capacity, with what is below
     std::vector<const ferretgold_object_handle *> ballast_;

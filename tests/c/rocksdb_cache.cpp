@@ -318,6 +318,44 @@ void walks_after_other_threads() {
     EXPECT(deleted.load(), 1);
 }
 
+void expect_totals(const Cache &cache, std::size_t usage, std::size_t pinned, std::size_t entries) {
+    EXPECT(cache.GetUsage(), usage);
+    EXPECT(cache.GetPinnedUsage(), pinned);
+    EXPECT(cache.GetOccupancyCount(), entries);
+}
+
+// Totals count what is held, was erased or goes with its handle, too, and no ballast.
+void tells_totals() {
+    const cache_pointer cache = small(1000, false, 1);
+    handle held = nullptr, alone = nullptr;
+    EXPECT(put(*cache, 1, nullptr, 30).ok(), true);
+    EXPECT(put(*cache, 2, &held, 5).ok(), true);
+    EXPECT(put(*cache, 2, &alone, 7).IsOkOverwritten(), true);
+    expect_totals(*cache, 42, 12, 2);
+    for (std::size_t capacity : {500, 300, 1000}) {
+        cache->SetCapacity(capacity);
+        expect_totals(*cache, 42, 12, 2);
+    }
+    cache->Erase(key_of(2));
+    expect_totals(*cache, 42, 12, 2);
+    EXPECT(cache->Release(held), true);
+    expect_totals(*cache, 37, 7, 1);
+    EXPECT(cache->Release(alone), true);
+    expect_totals(*cache, 30, 0, 1);
+}
+
+// Where metadata is charged, an entry that is pinned has a slot of it, by its estimated charge.
+void pins_metadata() {
+    const cache_pointer cache = ferretgold::NewFerretgoldCache({1 << 20, 4096, 0});
+    const std::size_t slots = cache->GetUsage();
+    handle held = nullptr;
+    expect_totals(*cache, slots, 0, 0);
+    EXPECT(put(*cache, 1, &held, 3 * 4096 - 1).ok(), true);
+    expect_totals(*cache, slots + 3 * 4096 - 1, 3 * 4096 - 1 + 3 * 64, 1);
+    cache->Release(held);
+    expect_totals(*cache, slots + 3 * 4096 - 1, 0, 1);
+}
+
 // ---- Capacities --------------------------------------------------------------------------------
 
 void fill(Cache &cache, std::uint64_t first, std::uint64_t count) {
@@ -618,6 +656,8 @@ int main(int count, char **words) {
     lets_deleters_call();
     walks();
     walks_after_other_threads();
+    tells_totals();
+    pins_metadata();
     sets_capacities(false);
     sets_capacities(true);
     makes_caches();
