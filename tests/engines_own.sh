@@ -5,7 +5,7 @@
 cd "$(dirname "$0")/.." || exit 2
 [[ $# == 0 ]] || exec "tests/engines/$1.sh" "${@:2}"
 failed=0
-for it in tests/engines/*.sh; do
-    "$it" || failed=1
+for it in leveldb rocksdb; do
+    "tests/engines/$it.sh" || failed=1
 done
 exit $failed

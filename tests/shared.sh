@@ -56,10 +56,10 @@ judge() {
     fi
 }
 
-# Runs a check, and shows what it said where it fails: tries NAME WORD..
+# Runs a check, shows what it said where it fails, and ends like it: tries NAME WORD..
 tries() {
     "${@:2}" > "$folder/out" 2>&1
-    judge "$1" || head -n 50 "$folder/out"
+    judge "$1" || { head -n 50 "$folder/out"; return 1; }
 }
 
 # Runs the program on the file `input`, or on what `from` names, and leaves its output in `out`, or
