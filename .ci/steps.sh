@@ -118,6 +118,13 @@ ended() {
     grep '^all: ' "$folder/times"
     printf '%s\n' "${table[@]}"
     printf '%6d s  all of it\n' $((SECONDS - began))
-    grep -E '^[0-9]+ passed, [0-9]+ failed' "$folder/log" | tail -n 1
+    echo "$(grep -E '^[0-9]+ passed, [0-9]+ failed' "$folder/log" | tail -n 1)$(skipped)"
     exit $((${#failed[@]} > 0))
+}
+
+# Says of what the steps beside others said that they skipped it, if of something.
+skipped() {
+    local all
+    all=$(sed -n 's/: SKIPPED: .*//p' "${names[@]/#/$folder/}" | sort -u | paste -sd ';')
+    [[ -z $all ]] || echo "; skipped: ${all//;/; }"
 }

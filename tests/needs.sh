@@ -35,6 +35,9 @@ packages=(gcc g++ make rustc libleveldb-dev)
 [[ -z $(lacking "${must[@]}") ]] || install "${packages[@]}"
 may "tests/page/replay.py will be skipped" "--no-install-recommends chromium" chromium
 may "a part of tests/engines.sh will be skipped" librocksdb-dev /usr/include/rocksdb/secondary_cache.h
+may "tests/engines_own.sh will be skipped" \
+    "libgtest-dev libgmock-dev libbenchmark-dev libsnappy-dev curl" /usr/include/gtest/gtest.h \
+    /usr/include/gmock/gmock.h /usr/include/benchmark/benchmark.h /usr/include/snappy.h curl
 may "tests/c/file.sh will be skipped, and parts of other scripts" libxxhash-dev /usr/include/xxhash.h
 may "tests/c/arm.sh will be skipped" \
     "--no-install-recommends qemu-user gcc-aarch64-linux-gnu libc6-dev-arm64-cross" \
