@@ -8,9 +8,9 @@
 # Of cache_test the column of HyperClockCache is run, without these, which differ:
 #   ErasedHandleState        two look-ups of an entry give equal handles there
 #   DefaultShardBits         casts the cache to a class of RocksDB's own
-#   ExternalRefPinsEntries   has an entry that was used three times gone after some 190 insertions in
-#                            its shard of 62. New entries begin at 0, so that the first turn of the
-#                            clock finds room for as many as that, where HyperClockCache's takes more
+#   ExternalRefPinsEntries   has an entry that was used three times gone after 3,100 insertions into a
+#                            cache of 1,000. Where new entries begin at 0 the hand of the clock moves
+#                            less for each, so that this takes some 5,000
 # and RocksDB itself passes over what it doesn't ask of a HyperClockCache: InsertSameKey,
 # EntriesArePinned, SetCapacity.
 # Usage: tests/engines/rocksdb.sh [TEST..]      cache_test, db_block_cache_test; both by default
