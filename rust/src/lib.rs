@@ -67,7 +67,15 @@ mod config;
 #[cfg(feature = "file")]
 mod file;
 mod handle;
+mod hashed;
 mod image;
+mod loads;
+mod object_cache;
+mod object_config;
+mod objects;
+mod owned;
+mod panics;
+mod pinned;
 #[allow(missing_docs)]
 mod raw;
 mod refused;
@@ -81,7 +89,13 @@ pub use config::{Config, MOST_SERIALS};
 #[cfg(feature = "file")]
 pub use file::{FileError, Loaded};
 pub use handle::Handle;
+pub use hashed::{HashedObjects, PinnedEntry};
 pub use image::Image;
+pub use loads::LoadError;
+pub use object_config::ObjectConfig;
+pub use objects::Objects;
+pub use owned::{Owned, Rejected};
+pub use pinned::Pinned;
 use refused::judged;
 pub use refused::Refused;
 

@@ -1,4 +1,4 @@
-//! The functions of ferretgold.h, _closed.h, _image.h, _large.h and _file.h, as C has them.
+//! The functions of ferretgold.h, _closed.h, _image.h, _large.h, _object.h and _file.h, as C has them.
 //! tests/static/check.py compares the two.
 
 use std::ffi::c_void;
@@ -30,6 +30,32 @@ pub struct Handle {
     pub cache: u32,
 }
 
+/// A configuration of a cache of objects, as it crosses to C.
+#[repr(C)]
+#[derive(Clone, Copy, Default)]
+pub struct ObjectConfig {
+    pub slots: u32,
+    pub clients: u32,
+    pub handles: u32,
+    pub gone: u32,
+    pub shards: u32,
+    pub strict: bool,
+    pub marks: bool,
+    pub size: u16,
+    pub capacity: u64,
+    pub serials: u64,
+    pub seed: u64,
+}
+
+#[repr(C)]
+#[derive(Clone, Copy, Debug)]
+pub struct ObjectHandle {
+    pub object: *mut c_void,
+    pub key: Key,
+    pub charge: u32,
+    pub kind: u16,
+}
+
 #[cfg(feature = "file")]
 pub use crate::Loaded;
 pub use crate::{Counts, Entry, Key, Stats, Totals};
@@ -43,6 +69,10 @@ pub enum Client {}
 pub enum Closed {}
 #[derive(Debug)]
 pub enum Image {}
+
+/// A cache of objects.
+#[derive(Debug)]
+pub enum ObjectCache {}
 
 extern "C" {
     pub fn ferretgold_memory(config: *const Config) -> u64;
@@ -189,6 +219,69 @@ extern "C" {
     pub fn ferretgold_statistics(client: *mut Client, stats: *mut Stats) -> u32;
     pub fn ferretgold_status_text(status: u32) -> *const c_char;
     pub fn ferretgold_version() -> *const c_char;
+}
+
+/// What a cache of objects calls for each that it hands back.
+pub type Deleter =
+    unsafe extern "C" fn(context: *mut c_void, key: *const Key, object: *mut c_void, kind: u16);
+
+extern "C" {
+    pub fn ferretgold_object_memory(config: *const ObjectConfig) -> u64;
+    pub fn ferretgold_object_config_check(config: *const ObjectConfig) -> u32;
+    pub fn ferretgold_object_open(
+        config: *const ObjectConfig,
+        deleter: Deleter,
+        context: *mut c_void,
+        cache: *mut *mut ObjectCache,
+    ) -> u32;
+    pub fn ferretgold_object_config_of(cache: *const ObjectCache, config: *mut ObjectConfig)
+        -> u32;
+    pub fn ferretgold_object_owns(cache: *mut ObjectCache, kind: u16) -> u32;
+    pub fn ferretgold_object_close(cache: *mut ObjectCache) -> u32;
+    pub fn ferretgold_object_lookup(
+        cache: *mut ObjectCache,
+        key: *const Key,
+        handle: *mut *const ObjectHandle,
+    ) -> u32;
+    pub fn ferretgold_object_pin_at(
+        cache: *mut ObjectCache,
+        shard: u32,
+        slot: u32,
+        handle: *mut *const ObjectHandle,
+    ) -> u32;
+    pub fn ferretgold_object_ref(cache: *mut ObjectCache, handle: *const ObjectHandle) -> u32;
+    pub fn ferretgold_object_release(
+        cache: *mut ObjectCache,
+        handle: *const ObjectHandle,
+        useful: bool,
+        erase_if_last: bool,
+        freed: *mut bool,
+    ) -> u32;
+    pub fn ferretgold_object_collect(cache: *mut ObjectCache) -> u32;
+    pub fn ferretgold_object_insert(
+        cache: *mut ObjectCache,
+        key: *const Key,
+        object: *mut c_void,
+        kind: u16,
+        charge: u32,
+        priority: u32,
+        inserted: *mut u32,
+    ) -> u32;
+    pub fn ferretgold_object_insert_pinned(
+        cache: *mut ObjectCache,
+        key: *const Key,
+        object: *mut c_void,
+        kind: u16,
+        charge: u32,
+        priority: u32,
+        inserted: *mut u32,
+        handle: *mut *const ObjectHandle,
+    ) -> u32;
+    pub fn ferretgold_object_erase(
+        cache: *mut ObjectCache,
+        key: *const Key,
+        hidden: *mut u32,
+    ) -> u32;
 }
 
 /// Callbacks that ferretgold_file.h takes.

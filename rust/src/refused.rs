@@ -42,6 +42,10 @@ statuses! {
     HANDLES_OUT = 38: "The client holds handles that were forgotten.";
     CLIENTS_OUT = 39: "Clients of the cache were forgotten.";
     BAD_SIZE = 40: "The library is older than this crate.";
+    GONE_FULL = 41: "Of objects, from a drop: its client's list is full.";
+    TOO_HIGH = 42: "Of objects: the address is 2^48 or above.";
+    BAD_GONE = 43: "The configuration's `gone` is out of range.";
+    UNTAKEN = 44: "Objects weren't all taken; no call of this crate is refused so.";
 }
 
 impl fmt::Display for Refused {

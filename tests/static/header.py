@@ -17,10 +17,12 @@ RUST = TOP / "rust/src"
 PLAIN = {"uint16_t": "u16", "uint32_t": "u32", "uint64_t": "u64", "size_t": "usize", "bool": "bool",
          "void": "c_void", "char": "c_char", "ferretgold_status": "u32", "ferretgold_priority": "u32",
          "ferretgold_inserted": "u32", "ferretgold_file_status": "u32"}
-FIELDS = ("config", "handle", "key", "stats", "counts", "totals", "entry", "loaded")
-HEADERS = tuple(TOP / f"include/ferretgold{it}.h" for it in ("", "_closed", "_image", "_large", "_file"))
-IN_CPP = {"ferretgold.hpp": HEADERS[:4], "ferretgold_file.hpp": HEADERS[4:]}
-GIVEN = ("ferretgold_write", "ferretgold_read")  # functions of the caller's, which the library calls
+FIELDS = ("config", "handle", "key", "stats", "counts", "totals", "entry", "loaded", "object_config",
+          "object_handle")
+HEADERS = tuple(TOP / f"include/ferretgold{it}.h" for it in ("", "_closed", "_image", "_large", "_file", "_object"))
+IN_CPP = {"ferretgold.hpp": HEADERS[:4], "ferretgold_file.hpp": HEADERS[4:5]}
+# Functions of the caller's, which the library calls.
+GIVEN = ("ferretgold_write", "ferretgold_read", "ferretgold_deleter")
 
 
 def source(name):
@@ -83,10 +85,14 @@ def code_of(path):
     return re.sub(r"/\*.*?\*/|//[^\n]*|^[ \t]*#(?:[^\n]*\\\n)*[^\n]*", " ", read(path), flags=re.S | re.M)
 
 
+def rust_name(name):
+    return "".join(it.capitalize() for it in name.removeprefix("ferretgold_").split("_"))
+
+
 def rust_of(kind):
     """A type of C as Rust has it."""
     is_const, name, stars = re.fullmatch(r"(const )?(?:struct )?(\w+) ?(\**)", kind).groups()
-    rust = PLAIN.get(name) or name.removeprefix("ferretgold_").capitalize()
+    rust = PLAIN.get(name) or rust_name(name)
     for _ in stars[name in GIVEN:]:
         rust, is_const = f"*{'const' if is_const else 'mut'} {rust}", None
     return rust
@@ -100,6 +106,7 @@ def split(parameter):
 
 def declared(code):
     """Each function of a header, as the crate has to declare it, and each type of functions."""
+    code = re.sub(r"\(\*(ferretgold_\w+)\)", r"\1", code)
     found = re.findall(r"([\w *]+?)\b(ferretgold_\w+)\s*\(([^()]*)\)\s*[;{]", code)
     for kind, name, parameters in found:
         if not re.search("static|return", kind) and kind.strip() and "_raw_" not in name:
@@ -110,7 +117,7 @@ def declared(code):
 
 def crate_declares():
     raw = read(RUST / "raw.rs")
-    found = re.findall(r"pub (?:fn (\w+)|type (\w+) =\s+unsafe extern \"C\" fn)\((.*?)\)(?: -> ([^;]+))?;", raw, re.S)
+    found = re.findall(r"pub (?:fn (\w+)|type (\w+) =\s+unsafe extern \"C\" fn)\((.*?)\)(?:\s+-> ([^;]+))?;", raw, re.S)
     return {name or f"ferretgold_{given.lower()}":
             ([tuple(it.strip().split(": ")) for it in parameters.split(",") if it.strip()], kind)
             for name, given, parameters, kind in found}
@@ -120,13 +127,13 @@ def fields(kind, code, crate):
     """The fields of a struct in C and in the crate."""
     inner = re.search(r"typedef struct ferretgold_%s \{(.*?)\}" % kind, code, re.S)[1]
     in_c = [split(it) for it in inner.split(";") if it.strip()]
-    inner = re.findall(r"#\[repr\(C\)\][^{}]*pub struct %s \{(.*?)\n\}" % kind.capitalize(), crate, re.S)
-    return in_c, re.findall(r"^    pub (\w+): (\w+),", "".join(inner), re.M)
+    inner = re.findall(r"#\[repr\(C\)\][^{}]*pub struct %s \{(.*?)\n\}" % rust_name(kind), crate, re.S)
+    return in_c, re.findall(r"^    pub (\w+): ([\w* ]+),", "".join(inner), re.M)
 
 
 def numbers(kind, mark, constant, code, crate):
     """The statuses of both: those that refuse."""
-    inner = re.search(r"enum ferretgold_%s \{(.*?)\}" % kind, code, re.S)[1]
+    inner = "".join(re.findall(r"enum (?:ferretgold_%s )?\{(.*?)\}" % kind, code, re.S))
     both = (re.findall(rf"{mark}(\w+) = (\d+)", inner), re.findall(constant, crate, re.M))
     return [{name: int(it) for name, it in found if int(it) > 1} for found in both]
 

@@ -1,0 +1,130 @@
+//! How large a cache of objects is, and how it behaves.
+
+use crate::config::MOST_SERIALS;
+use crate::refused::judged;
+use crate::{raw, Refused};
+use std::collections::hash_map::RandomState;
+use std::hash::{BuildHasher, Hasher};
+
+/// How large a cache of objects is, and how it behaves, as `ferretgold_object_config` of
+/// ferretgold_object.h.
+///
+/// ```
+/// use ferretgold::{ObjectConfig, Objects, Refused};
+///
+/// let config = ObjectConfig { strict: true, ..ObjectConfig::sized(1 << 30, 4096) };
+/// assert_eq!((config.capacity, config.check()), (1 << 30, Ok(())));
+/// let bad = ObjectConfig { gone: 3, ..config };
+/// assert_eq!(Objects::<Vec<u8>>::open(&bad).unwrap_err(), Refused::BAD_GONE);
+/// ```
+#[derive(Clone, Copy, Debug, PartialEq, Eq)]
+pub struct ObjectConfig {
+    /// Slots of each shard: a power of two, 8 to 65,536.
+    pub slots: u32,
+    /// Clients, 1 to 1,024: at least as many as threads make calls at once.
+    pub clients: u32,
+    /// Handles that a client may hold at once: 1 to 16,384.
+    pub handles: u32,
+    /// How many entries one call may free before objects are dropped: 4 to 65,536.
+    pub gone: u32,
+    /// Shards: a power of two, 1 to 64.
+    pub shards: u32,
+    /// Whether each shard's charges stay within its part of the capacity.
+    pub strict: bool,
+    /// Whether look-ups mark entries.
+    pub marks: bool,
+    /// In charges, at most 2^40.
+    pub capacity: u64,
+    /// Serials of each client: 1 to 2^54.
+    pub serials: u64,
+    /// Of the keys; 0 only if keys are spread already.
+    pub seed: u64,
+}
+
+/// A configuration to begin with, as `FERRETGOLD_OBJECT_CONFIG` of ferretgold_object.h. Its seed is known
+/// to whoever reads this.
+impl Default for ObjectConfig {
+    fn default() -> ObjectConfig {
+        ObjectConfig {
+            slots: 4096,
+            clients: 64,
+            handles: 256,
+            gone: 256,
+            shards: 4,
+            strict: false,
+            marks: false,
+            capacity: 46_972_928,
+            serials: MOST_SERIALS,
+            seed: 0x9e37_79b9_7f4a_7c15,
+        }
+    }
+}
+
+const FEWEST_SLOTS: u64 = 8;
+const MOST_SLOTS: u64 = 1 << 16;
+const MOST_SHARDS: u64 = 64;
+/// How many slots are worth a shard, up to so many shards.
+const WORTH: u64 = 4096;
+const USUAL_SHARDS: u64 = 16;
+
+impl ObjectConfig {
+    /// One of this capacity, whose entries usually have this charge: with ten slots or more for seven of
+    /// them, up to 4,194,304 slots, and a seed that is drawn.
+    pub fn sized(capacity: u64, charge: u64) -> ObjectConfig {
+        let wanted = (capacity / charge.max(1)).saturating_mul(10) / 7;
+        let slots = wanted
+            .clamp(FEWEST_SLOTS, MOST_SLOTS * MOST_SHARDS)
+            .next_power_of_two();
+        let shards = (slots / WORTH)
+            .clamp(1, USUAL_SHARDS)
+            .max(slots / MOST_SLOTS);
+        ObjectConfig {
+            slots: (slots / shards) as u32,
+            shards: shards as u32,
+            capacity,
+            seed: RandomState::new().build_hasher().finish() | 1,
+            ..ObjectConfig::default()
+        }
+    }
+
+    /// Whether a cache can be opened so, whatever memory there is.
+    pub fn check(&self) -> Result<(), Refused> {
+        judged(unsafe { raw::ferretgold_object_config_check(&self.raw()) })
+    }
+
+    /// How many bytes a cache of this configuration allocates, beside what the objects are.
+    pub fn memory(&self) -> u64 {
+        unsafe { raw::ferretgold_object_memory(&self.raw()) }
+    }
+
+    pub(crate) fn of(it: &raw::ObjectConfig) -> ObjectConfig {
+        ObjectConfig {
+            slots: it.slots,
+            clients: it.clients,
+            handles: it.handles,
+            gone: it.gone,
+            shards: it.shards,
+            strict: it.strict,
+            marks: it.marks,
+            capacity: it.capacity,
+            serials: it.serials,
+            seed: it.seed,
+        }
+    }
+
+    pub(crate) fn raw(&self) -> raw::ObjectConfig {
+        raw::ObjectConfig {
+            slots: self.slots,
+            clients: self.clients,
+            handles: self.handles,
+            gone: self.gone,
+            shards: self.shards,
+            strict: self.strict,
+            marks: self.marks,
+            size: std::mem::size_of::<raw::ObjectConfig>() as u16,
+            capacity: self.capacity,
+            serials: self.serials,
+            seed: self.seed,
+        }
+    }
+}
