@@ -10,17 +10,19 @@ use std::hash::{BuildHasher, Hash, Hasher};
 use std::ops::Deref;
 use std::sync::Arc;
 
-/// A cache of objects whose keys are of any type. The table finds them by a hash of 16 bytes; a key lies
-/// beside its object and is compared, so that what is found is the key's, whatever hashes are equal. Of
-/// keys whose hashes are, the table has one at a time.
+/// A cache of objects whose keys are of any type. The table finds them by a hash of 16 bytes; a key
+/// lies beside its object and is compared, so that what is found is the key's, whatever hashes are
+/// equal. Of keys whose hashes are, the table has one at a time.
 ///
-/// What [`Objects`] says holds here. An object that is to be shared is an [`Arc`] itself.
+/// What [`Objects`] says holds here. An object that is to be shared is an [`Arc`] itself. What a
+/// key has for hashing, comparing and dropping it doesn't call the cache.
 ///
 /// ```
 /// use ferretgold::{HashedObjects, ObjectConfig};
 ///
 /// # fn main() -> Result<(), Box<dyn std::error::Error>> {
-/// let pages: HashedObjects<String, Vec<u8>> = HashedObjects::open(&ObjectConfig::sized(1 << 20, 64))?;
+/// let config = ObjectConfig::sized(1 << 20, 64);
+/// let pages: HashedObjects<String, Vec<u8>> = HashedObjects::open(&config)?;
 /// pages.insert("/index".to_string(), b"Welcome".to_vec(), 7)?;
 /// assert_eq!(**pages.get("/index").unwrap(), *b"Welcome");
 /// let page = pages.get_or_insert_with("/help", || Ok::<_, ()>((b"Help".to_vec(), 4))).unwrap();
@@ -75,8 +77,8 @@ impl<K: Hash + Eq, V, S: BuildHasher> HashedObjects<K, V, S> {
         self.find(&self.hash(key), key).map(PinnedEntry)
     }
 
-    /// Inserts an object, as [`Objects::insert`] does. `Dropped` also if one is there whose key has the same
-    /// hash.
+    /// Inserts an object, as [`Objects::insert`] does. `Dropped` also if one is there whose key has
+    /// the same hash.
     pub fn insert(&self, key: K, object: V, charge: u32) -> Result<Inserted, Rejected<(K, V)>> {
         let hash = self.hash(&key);
         let keyed = Keyed { key, object };
@@ -88,7 +90,8 @@ impl<K: Hash + Eq, V, S: BuildHasher> HashedObjects<K, V, S> {
             })
     }
 
-    /// The object of a key; if none is there, what `load` gives, as [`Objects::get_or_insert_with`] does.
+    /// The object of a key; if none is there, what `load` gives, as [`Objects::get_or_insert_with`]
+    /// does.
     pub fn get_or_insert_with<Q, E>(
         &self,
         key: &Q,

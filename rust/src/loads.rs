@@ -48,18 +48,18 @@ struct Table<K, V> {
     waits: HashMap<ThreadId, K>,
 }
 
+/// It is in the table while a thread loads or, after that failed, one waits.
 struct Load<V> {
-    state: State<V>,
+    /// None once it failed: who waits loads next.
+    loader: Option<ThreadId>,
     waiting: usize,
-    changed: Arc<Condvar>,
+    end: Arc<End<V>>,
 }
 
-enum State<V> {
-    Loading(ThreadId),
-    /// The loader failed: who waits loads next.
-    Free,
-    /// For those who wait.
-    Loaded(Pinned<V>),
+/// What those have who wait, also when others load anew.
+struct End<V> {
+    changed: Condvar,
+    loaded: Mutex<Option<Pinned<V>>>,
 }
 
 impl<K: Hash + Eq, V> Loads<K, V> {
@@ -106,7 +106,7 @@ impl<K: Hash + Eq, V> Loads<K, V> {
         Q: Hash + Eq + ToOwned<Owned = K> + ?Sized,
     {
         let (me, own) = (thread::current().id(), key.to_owned());
-        let mut table = self.locked();
+        let mut table = locked(&self.table);
         if !table.loads.contains_key(key) {
             table.loads.insert(own, Load::by(me));
             return Turn::Mine(Mine { loads: self, key });
@@ -116,42 +116,40 @@ impl<K: Hash + Eq, V> Loads<K, V> {
         }
         table.waits.insert(me, own);
         table.load(key).waiting += 1;
-        let pinned = loop {
-            let load = table.load(key);
-            match &load.state {
-                State::Loaded(pinned) => break Some(pinned.shared()),
-                State::Free => break None,
-                State::Loading(_) => {
-                    let changed = Arc::clone(&load.changed);
-                    table = changed.wait(table).unwrap_or_else(PoisonError::into_inner);
-                }
+        let end = Arc::clone(&table.load(key).end);
+        loop {
+            let loaded = locked(&end.loaded).as_ref().map(Pinned::shared);
+            if let Some(pinned) = loaded {
+                drop(table); // before `end`, which may give an object back
+                return Turn::Waited(pinned);
             }
-        };
-        let waited = table.waits.remove(&me);
-        let over = table.waited(key, me, pinned.is_none());
-        // What was loaded may go here, and a drop of the program's may load.
-        drop(table);
-        drop((waited, over));
-        match pinned {
-            Some(pinned) => Turn::Waited(pinned),
-            None => Turn::Mine(Mine { loads: self, key }),
+            if table.load(key).loader.is_none() {
+                break;
+            }
+            table = end
+                .changed
+                .wait(table)
+                .unwrap_or_else(PoisonError::into_inner);
         }
-    }
-
-    fn locked(&self) -> MutexGuard<'_, Table<K, V>> {
-        self.table.lock().unwrap_or_else(PoisonError::into_inner)
+        let load = table.load(key);
+        (load.loader, load.waiting) = (Some(me), load.waiting - 1);
+        table.waits.remove(&me);
+        Turn::Mine(Mine { loads: self, key })
     }
 }
 
+fn locked<T>(it: &Mutex<T>) -> MutexGuard<'_, T> {
+    it.lock().unwrap_or_else(PoisonError::into_inner)
+}
+
 impl<K: Hash + Eq, V> Table<K, V> {
-    /// A load stays while anybody loads or waits.
     fn load<Q: Hash + Eq + ?Sized>(&mut self, key: &Q) -> &mut Load<V>
     where
         K: Borrow<Q>,
     {
         self.loads
             .get_mut(key)
-            .expect("a load that somebody waits for")
+            .expect("a load of a thread or for one")
     }
 
     /// Whether who loads this is a thread, or waits for one that is, and so on.
@@ -160,52 +158,29 @@ impl<K: Hash + Eq, V> Table<K, V> {
         K: Borrow<Q>,
     {
         let mut next = self.loads.get(key);
-        while let Some(Load { state, .. }) = next {
-            match state {
-                State::Loading(it) if *it == thread => return true,
-                State::Loading(it) => {
-                    next = self
-                        .waits
-                        .get(it)
-                        .and_then(|its| self.loads.get(its.borrow()));
-                }
-                _ => return false,
+        while let Some(loader) = next.and_then(|it| it.loader) {
+            if loader == thread {
+                return true;
             }
+            let awaited = self.waits.get(&loader);
+            next = awaited.and_then(|its| self.loads.get(its.borrow()));
         }
         false
-    }
-
-    /// A thread waits no longer: it loads now, or leaves. The load, if nobody needs that any more.
-    fn waited<Q: Hash + Eq + ?Sized>(
-        &mut self,
-        key: &Q,
-        thread: ThreadId,
-        loads: bool,
-    ) -> Option<(K, Load<V>)>
-    where
-        K: Borrow<Q>,
-    {
-        let load = self.load(key);
-        load.waiting -= 1;
-        if loads {
-            load.state = State::Loading(thread);
-            return None;
-        }
-        (load.waiting == 0).then(|| self.loads.remove_entry(key))?
     }
 }
 
 impl<V> Load<V> {
     fn by(thread: ThreadId) -> Load<V> {
+        let (changed, loaded) = (Condvar::new(), Mutex::new(None));
         Load {
-            state: State::Loading(thread),
+            loader: Some(thread),
             waiting: 0,
-            changed: Arc::default(),
+            end: Arc::new(End { changed, loaded }),
         }
     }
 }
 
-// ---- A thread's turn -----------------------------------------------------------------------------
+// ---- A thread's turn ----------------------------------------------------------------------------
 
 enum Turn<'a, K: Hash + Eq + Borrow<Q>, Q: Hash + Eq + ?Sized, V> {
     Mine(Mine<'a, K, Q, V>),
@@ -225,20 +200,22 @@ impl<K: Hash + Eq + Borrow<Q>, Q: Hash + Eq + ?Sized, V> Mine<'_, K, Q, V> {
         forget(self);
     }
 
+    /// What those who wait get, if anything.
     fn ends(&self, pinned: Option<&Pinned<V>>) {
-        let mut table = self.loads.locked();
+        let mut table = locked(&self.loads.table);
         let load = table.load(self.key);
-        if load.waiting == 0 {
-            let over = table.loads.remove_entry(self.key);
-            drop(table);
-            drop(over);
-        } else if let Some(pinned) = pinned {
-            load.state = State::Loaded(pinned.shared());
-            load.changed.notify_all();
-        } else {
-            load.state = State::Free;
-            load.changed.notify_one();
+        let end = Arc::clone(&load.end);
+        if load.waiting > 0 && pinned.is_none() {
+            load.loader = None;
+            end.changed.notify_one();
+            return;
         }
+        if load.waiting > 0 {
+            *locked(&end.loaded) = pinned.map(Pinned::shared);
+            table.waits.retain(|_, key| (*key).borrow() != self.key);
+            end.changed.notify_all();
+        }
+        table.loads.remove(self.key);
     }
 }
 

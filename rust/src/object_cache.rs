@@ -1,13 +1,13 @@
-//! A cache of objects as `ferretgold_object.h` has it, with all `unsafe` of objects. What stands on it is
-//! safe, as these hold:
+//! A cache of objects as `ferretgold_object.h` has it, with all `unsafe` of objects. What stands on
+//! it is safe, as these hold:
 //!
-//! - *Owner*: an object is owned by one side. Its pointer goes to C by [`into_raw`], with the kind that says
-//!   how it is owned, and comes back by [`from_raw`]: where C says that it wasn't taken, or by C's one call
-//!   of [`delete`].
-//! - *Open*: a cache is open while there is its [`ObjectCache`], and each call borrows that: so none is
-//!   under way, on any thread, when it is dropped and closes the cache.
-//! - *Held*: a [`Held`] has one reference of C's handle and a share of the cache. Until it gives that back C
-//!   keeps what the handle shows, and doesn't hand its object back.
+//! - *Owner*: an object is owned by one side. Its pointer goes to C by [`into_raw`], with the kind
+//!   that says how it is owned, and comes back by [`from_raw`]: where C says that it wasn't taken,
+//!   or by C's one call of [`delete`].
+//! - *Open*: a cache is open while there is its [`ObjectCache`], and each call borrows that: so
+//!   none is under way, on any thread, when it is dropped and closes the cache.
+//! - *Held*: a [`Held`] has one reference of C's handle and a share of the cache. Until it gives
+//!   that back C keeps what the handle shows, and doesn't hand its object back.
 //!
 //! A cache takes no object that lives shorter than its own type says:
 //!
@@ -39,12 +39,12 @@ pub(crate) struct ObjectCache<V> {
     objects: PhantomData<Mutex<V>>,
 }
 
-// SAFETY: C's calls are for all threads at once. Any thread may read an object (`Sync`), and drop it
-// (`Send`).
+// SAFETY: C's calls are for all threads at once. Any thread may read an object (`Sync`), and drop
+// it (`Send`).
 unsafe impl<V: Send + Sync> Send for ObjectCache<V> {}
 unsafe impl<V: Send + Sync> Sync for ObjectCache<V> {}
 
-// ---- Who owns an object --------------------------------------------------------------------------
+// ---- Who owns an object -------------------------------------------------------------------------
 
 const BOX: u16 = 0;
 const ARC: u16 = 1;
@@ -78,7 +78,7 @@ unsafe extern "C" fn delete<V>(_: *mut c_void, _: *const Key, object: *mut c_voi
     panics::caught(|| drop(unsafe { from_raw::<V>(object, kind) }));
 }
 
-// ---- Calls ---------------------------------------------------------------------------------------
+// ---- Calls --------------------------------------------------------------------------------------
 
 impl<V: Send + Sync> ObjectCache<V> {
     pub fn open(config: &ObjectConfig) -> Result<ObjectCache<V>, Refused> {
@@ -173,16 +173,16 @@ unsafe impl Sync for Closes {}
 
 impl Closes {
     fn is_done(&self) -> bool {
-        // SAFETY: *Open*: no call is under way, and none follows where this closes it. Each handle that is
-        // out has a share of the cache, so none is.
+        // SAFETY: *Open*: no call is under way, and none follows where this closes it. Each handle
+        // that is out has a share of the cache, so none is.
         unsafe { raw::ferretgold_object_close(self.0.as_ptr()) == 0 }
     }
 }
 
-// ---- Handles -------------------------------------------------------------------------------------
+// ---- Handles ------------------------------------------------------------------------------------
 
-/// One of the places at which those who hold a cache's entries are counted. Each thread counts at one, so
-/// that few meet at a line of memory.
+/// One of the places at which those who hold a cache's entries are counted. Each thread counts at
+/// one, so that few meet at a line of memory.
 #[repr(align(128))]
 pub(crate) struct Home<V>(Arc<ObjectCache<V>>);
 
@@ -194,8 +194,8 @@ pub(crate) struct Held<V> {
     pub useful: bool,
 }
 
-// SAFETY: any thread may read what a handle shows, share it and give it back. The last one drops the
-// object (`Send`).
+// SAFETY: any thread may read what a handle shows, share it and give it back. The last one drops
+// the object (`Send`).
 unsafe impl<V: Send + Sync> Send for Held<V> {}
 unsafe impl<V: Send + Sync> Sync for Held<V> {}
 
@@ -283,7 +283,8 @@ impl<V> Held<V> {
     }
 
     pub fn object(&self) -> &V {
-        // SAFETY: *Held*; *Owner*: it is an object of `V`, which C owns meanwhile, and nobody changes.
+        // SAFETY: *Held*; *Owner*: it is an object of `V`, which C owns meanwhile, and nobody
+        // changes.
         unsafe { &*self.shows().object.cast::<V>() }
     }
 
@@ -295,8 +296,8 @@ impl<V> Held<V> {
         self.shows().charge
     }
 
-    /// One more reference. C doesn't look how many there are, up to 2^32: so there is one for each thread
-    /// that waits, and no more.
+    /// One more reference. C doesn't look how many there are, up to 2^32: so there is one for each
+    /// thread that waits, and no more.
     pub fn shared(&self) -> Held<V> {
         // SAFETY: *Open*; *Held*.
         let status = unsafe { raw::ferretgold_object_ref(self.home.at(), self.handle.as_ptr()) };

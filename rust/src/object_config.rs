@@ -41,8 +41,8 @@ pub struct ObjectConfig {
     pub seed: u64,
 }
 
-/// A configuration to begin with, as `FERRETGOLD_OBJECT_CONFIG` of ferretgold_object.h. Its seed is known
-/// to whoever reads this.
+/// A configuration to begin with, as `FERRETGOLD_OBJECT_CONFIG` of ferretgold_object.h. Its seed is
+/// known to whoever reads this.
 impl Default for ObjectConfig {
     fn default() -> ObjectConfig {
         ObjectConfig {
@@ -68,8 +68,8 @@ const WORTH: u64 = 4096;
 const USUAL_SHARDS: u64 = 16;
 
 impl ObjectConfig {
-    /// One of this capacity, whose entries usually have this charge: with ten slots or more for seven of
-    /// them, up to 4,194,304 slots, and a seed that is drawn.
+    /// One of this capacity, whose entries usually have this charge: with ten slots or more for
+    /// seven of them, up to 4,194,304 slots, and a seed that is drawn.
     pub fn sized(capacity: u64, charge: u64) -> ObjectConfig {
         let wanted = (capacity / charge.max(1)).saturating_mul(10) / 7;
         let slots = wanted

@@ -10,8 +10,8 @@ use std::sync::atomic::{AtomicUsize, Ordering};
 use std::sync::Arc;
 use std::thread::available_parallelism;
 
-/// A cache of objects of type `V`, for many threads. Who finds one reads it where it lies, and holds it
-/// meanwhile; nothing is copied.
+/// A cache of objects of type `V`, for many threads. Who finds one reads it where it lies, and
+/// holds it meanwhile; nothing is copied.
 ///
 /// ```
 /// use ferretgold::{ObjectConfig, Objects};
@@ -33,9 +33,10 @@ use std::thread::available_parallelism;
 /// # }
 /// ```
 ///
-/// Keys are of 16 bytes; [`HashedObjects`](crate::HashedObjects) has keys of any type. A clone is the same
-/// cache: for structs, threads and tasks. Calls take no client; but [`get_or_insert_with`] never wait, and
-/// allocate only an object's box. The last of a cache's clones and [`Pinned`]s closes it, on its thread.
+/// Keys are of 16 bytes; [`HashedObjects`](crate::HashedObjects) has keys of any type. A clone is
+/// the same cache: for structs, threads and tasks. Calls take no client; but [`get_or_insert_with`]
+/// never wait, and allocate only an object's box. The last of a cache's clones and [`Pinned`]s
+/// closes it, on its thread.
 ///
 /// **Who owns an object**
 ///
@@ -46,9 +47,9 @@ use std::thread::available_parallelism;
 /// | `Ok(Dropped)` | dropped: as if it had been placed and evicted at once |
 /// | `Err` | the caller's again, in the error |
 ///
-/// **Drops** run on the thread whose call freed the entry, when that call is over; they may call the cache.
-/// Where one panics, the others run all the same, each once; then the call panics with the first, as when a
-/// `Vec` is dropped, or lets it be where its thread unwinds already.
+/// **Drops** run on the thread whose call freed the entry, when that call is over; they may call
+/// the cache. Where one panics, the others run all the same, each once; then the call panics with
+/// the first, as when a `Vec` is dropped, or lets it be where its thread unwinds already.
 ///
 /// [`get_or_insert_with`]: Objects::get_or_insert_with
 pub struct Objects<V> {
@@ -61,8 +62,8 @@ struct Shared<V> {
 }
 
 impl<V: Send + Sync> Objects<V> {
-    /// Opens a cache with no entries. Allocates what [`ObjectConfig::memory`] says, and 256 bytes for each
-    /// processor.
+    /// Opens a cache with no entries. Allocates what [`ObjectConfig::memory`] says, and 256 bytes
+    /// for each processor.
     pub fn open(config: &ObjectConfig) -> Result<Objects<V>, Refused> {
         let cache = Arc::new(ObjectCache::open(config)?);
         let many = available_parallelism().map_or(1, |it| it.get().next_power_of_two());
@@ -80,14 +81,15 @@ impl<V> Objects<V> {
         self.home().cache().config()
     }
 
-    /// The object of a key, if one is there. `None` also where no handle is to be had: all clients are in
-    /// calls, or hold as many as they may.
+    /// The object of a key, if one is there. `None` also where no handle is to be had: all clients
+    /// are in calls, or hold as many as they may.
     pub fn get(&self, key: &[u8; 16]) -> Option<Pinned<V>> {
         self.home().lookup(&(*key).into()).map(Pinned::of)
     }
 
-    /// Inserts an object, as one that was never used: it goes before those that were, unless somebody reads
-    /// it first. That hits most often where some objects are read far more often than others.
+    /// Inserts an object, as one that was never used: it goes before those that were, unless
+    /// somebody reads it first. That hits most often where some objects are read far more often
+    /// than others.
     pub fn insert(
         &self,
         key: &[u8; 16],
@@ -122,7 +124,8 @@ impl<V> Objects<V> {
         })
     }
 
-    /// Inserts an object, and holds it: `Placed` or `Standalone`. Giving that back is no use of the entry.
+    /// Inserts an object, and holds it: `Placed` or `Standalone`. Giving that back is no use of the
+    /// entry.
     pub fn insert_pinned(
         &self,
         key: &[u8; 16],
@@ -136,13 +139,13 @@ impl<V> Objects<V> {
         Ok((came, Pinned::of(held)))
     }
 
-    /// The object of a key; if none is there, what `load` gives, with its charge, which is then inserted as
-    /// [`insert`](Objects::insert) does it; a charge of 0 counts as 1. Whatever the cache answers, the
-    /// object is held and given.
+    /// The object of a key; if none is there, what `load` gives, with its charge: it is inserted
+    /// as by [`insert`](Objects::insert), and a charge of 0 counts as 1. Whatever the cache
+    /// answers, the object is held and given.
     ///
-    /// Of each key one thread loads at a time, in no call of the cache, and others that ask for it so wait:
-    /// they block their threads. What it loaded is theirs, too. If it fails or panics that is told its own
-    /// caller, and one that waits loads next.
+    /// Of each key one thread loads at a time, in no call of the cache, and others that ask for it
+    /// so wait: they block their threads. What it loaded is theirs, too. If it fails or panics that
+    /// is told its own caller, and one that waits loads next.
     ///
     /// ```
     /// use ferretgold::{LoadError, ObjectConfig, Objects};
@@ -152,7 +155,8 @@ impl<V> Objects<V> {
     /// let failed = cache.get_or_insert_with(&key, || Err::<(String, u32), _>("no such file"));
     /// assert_eq!(failed.unwrap_err(), LoadError::Failed("no such file"));
     ///
-    /// let inner = || cache.get_or_insert_with(&key, || Ok::<_, ()>((String::new(), 1))).unwrap_err();
+    /// let other = || Ok::<_, ()>((String::new(), 1));
+    /// let inner = || cache.get_or_insert_with(&key, other).unwrap_err();
     /// let outer = cache.get_or_insert_with(&key, || Err::<(String, u32), _>(inner()));
     /// assert_eq!(outer.unwrap_err(), LoadError::Failed(LoadError::OwnKey));
     /// ```
@@ -180,19 +184,21 @@ impl<V> Objects<V> {
         }
     }
 
-    /// Hides each visible entry of the key, and says how many. Its object goes when nobody holds it. Refuses
+    /// Hides each visible entry of the key, and says how many. Its object goes when nobody holds
+    /// it. Refuses
     /// [`Refused::NO_CLIENT`]; the entry stays then.
     pub fn erase(&self, key: &[u8; 16]) -> Result<u32, Refused> {
         self.home().cache().erase(&(*key).into())
     }
 
-    /// Gives back what other threads than those that got it gave back, where its client is in no call, so
-    /// that its entries can go.
+    /// Gives back what other threads than those that got it gave back, where its client is in no
+    /// call, so that its entries can go.
     pub fn collect(&self) {
         self.home().cache().collect();
     }
 
-    /// Holds each visible entry in turn, slot by slot, while others change them. Giving it back is no use.
+    /// Holds each visible entry in turn, slot by slot, while others change them. Giving it back is
+    /// no use.
     pub fn iter(&self) -> impl Iterator<Item = Pinned<V>> + '_ {
         let ObjectConfig { shards, slots, .. } = self.config();
         (0..shards).flat_map(move |shard| {

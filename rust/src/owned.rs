@@ -6,8 +6,8 @@ use std::fmt;
 use std::ops::Deref;
 use std::sync::Arc;
 
-/// An object that is to be inserted: one of the program's, in a box or shared. A value becomes one in a
-/// box.
+/// An object that is to be inserted: one of the program's, in a box or shared. A value becomes one
+/// in a box.
 #[derive(Debug)]
 pub enum Owned<V> {
     /// The cache's alone.

@@ -1,5 +1,5 @@
-//! Panics of objects that C has dropped: each waits until the call of this thread which dropped it is
-//! over, as nothing unwinds through C.
+//! Panics of objects that C has dropped: each waits until the call of this thread which dropped it
+//! is over, as nothing unwinds through C.
 
 use std::any::Any;
 use std::cell::Cell;
@@ -29,8 +29,8 @@ pub(crate) fn caught(drops: impl FnOnce()) {
     }
 }
 
-/// At the end of a call: the first panic of an object that it dropped goes on here, unless the thread
-/// unwinds already.
+/// At the end of a call: the first panic of an object that it dropped goes on here, unless the
+/// thread unwinds already.
 #[inline]
 pub(crate) fn go_on() {
     if WAITS.with(Cell::get) {

@@ -6,12 +6,12 @@ use std::fmt;
 use std::ops::Deref;
 use std::sync::Arc;
 
-/// An object that stays while this is there, also when its entry is erased or evicted. It may go to any
-/// thread, keeps its cache open, and gives itself back when it is dropped: as a use of its entry, if a
-/// look-up found it.
+/// An object that stays while this is there, also when its entry is erased or evicted. It may go to
+/// any thread, keeps its cache open, and gives itself back when it is dropped: as a use of its
+/// entry, if a look-up found it.
 ///
-/// Each takes one of the handles of a client of the cache. An object in the cache that has a `Pinned` of
-/// its own cache keeps that for ever, as a circle of `Arc`s does.
+/// Each takes one of the handles of a client of the cache. An object in the cache that has a
+/// `Pinned` of its own cache keeps that for ever, as a circle of `Arc`s does.
 ///
 /// ```
 /// # use ferretgold::{ObjectConfig, Objects};
@@ -65,9 +65,9 @@ impl<V> Pinned<V> {
         }
     }
 
-    /// Gives it back: as a use of its entry if `useful`. If it was the last one, and the entry was erased
-    /// or `erase_if_last` is set, one try is made to free the entry. Says whether this freed an entry,
-    /// which isn't so where another thread got this.
+    /// Gives it back: as a use of its entry if `useful`. If it was the last one, and the entry was
+    /// erased or `erase_if_last` is set, one try is made to free the entry. Says whether this freed
+    /// an entry, which isn't so where another thread got this.
     pub fn release(self, useful: bool, erase_if_last: bool) -> bool {
         match self.0 {
             Place::Cached(held) => held.release(useful, erase_if_last),

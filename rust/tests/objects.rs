@@ -1,15 +1,11 @@
-//! Caches of objects: who owns an object after each answer, and that each is dropped once, on whatever
-//! thread, also where drops panic; loaders; keys of any type; and threads whose objects check themselves.
+//! Caches of objects: who owns an object after each answer, and that each is dropped once, on
+//! whatever thread, also where drops panic; and threads whose objects check themselves.
 
-use ferretgold::{
-    HashedObjects, Inserted, LoadError, ObjectConfig, Objects, Owned, Pinned, Priority, Refused,
-};
+use ferretgold::{Inserted, ObjectConfig, Objects, Owned, Pinned, Priority, Refused, Rejected};
 use std::cell::RefCell;
-use std::collections::hash_map::DefaultHasher;
-use std::hash::{BuildHasherDefault, Hasher};
 use std::panic::{catch_unwind, AssertUnwindSafe};
-use std::sync::atomic::{AtomicIsize, AtomicU64, AtomicUsize, Ordering::SeqCst};
-use std::sync::{Arc, Barrier, Mutex};
+use std::sync::atomic::{AtomicIsize, AtomicU64, Ordering::SeqCst};
+use std::sync::{Arc, Mutex};
 use std::thread;
 
 const KEY: [u8; 16] = *b"0123456789abcdef";
@@ -87,69 +83,100 @@ fn count(lives: &Lives) -> isize {
     lives.load(SeqCst)
 }
 
-// ---- Who owns an object --------------------------------------------------------------------------
+// ---- Who owns an object -------------------------------------------------------------------------
+
+#[derive(Clone, Copy, Debug)]
+enum Call {
+    Insert,
+    InsertAt,
+    InsertPinned,
+}
+
+type Came = Result<(Inserted, Option<Pinned<Object>>), Rejected<Owned<Object>>>;
+
+fn called(
+    call: Call,
+    cache: &Objects<Object>,
+    key: &[u8; 16],
+    object: Owned<Object>,
+    charge: u32,
+) -> Came {
+    match call {
+        Call::Insert => cache.insert(key, object, charge).map(|it| (it, None)),
+        Call::InsertAt => {
+            let it = cache.insert_at(key, object, charge, Priority::Low);
+            it.map(|it| (it, None))
+        }
+        Call::InsertPinned => {
+            let it = cache.insert_pinned(key, object, charge, Priority::Low);
+            it.map(|(it, held)| (it, Some(held)))
+        }
+    }
+}
 
 #[test]
 fn each_answer_says_who_owns_the_object() {
-    use Inserted::{Dropped, Placed, Standalone};
-    let (lives, cache) = (lives(), Objects::<Object>::open(&small()).unwrap());
-    let share: Mutex<Option<Arc<Object>>> = Mutex::new(None);
-    let made = |shared| -> Owned<Object> {
-        let it = Object::new(&lives, 1);
-        match shared {
-            false => it.into(),
-            true => share.lock().unwrap().insert(Arc::new(it)).clone().into(),
+    use {Call::*, Inserted::*};
+    // Where `KEY` stands with charge 60 and so many hold it: a call, its key and charge, the answer,
+    // and how many live once what that gave is dropped.
+    let rows = [
+        (0, Insert, KEY, 10, Ok(Dropped), 1),
+        (0, Insert, OTHER, 40, Ok(Placed), 2),
+        (0, Insert, OTHER, 60, Ok(Placed), 1), // in place of the other
+        (0, Insert, OTHER, 0, Err(Refused::NO_CHARGE), 1),
+        (0, Insert, OTHER, 101, Err(Refused::TOO_LARGE), 1),
+        (1, Insert, OTHER, 60, Err(Refused::CAPACITY_FULL), 1),
+        (4, Insert, OTHER, 40, Err(Refused::HANDLES_FULL), 1),
+        (4, InsertAt, OTHER, 40, Ok(Placed), 2),
+        (0, InsertAt, KEY, 10, Ok(Dropped), 1),
+        (0, InsertAt, OTHER, 0, Err(Refused::NO_CHARGE), 1),
+        (1, InsertAt, OTHER, 60, Err(Refused::CAPACITY_FULL), 1),
+        (0, InsertPinned, KEY, 10, Ok(Standalone), 1),
+        (0, InsertPinned, OTHER, 40, Ok(Placed), 2),
+        (0, InsertPinned, OTHER, 101, Err(Refused::TOO_LARGE), 1),
+        (4, InsertPinned, OTHER, 40, Err(Refused::HANDLES_FULL), 1),
+    ];
+    for (number, (holds, call, key, charge, wanted, left)) in rows.into_iter().enumerate() {
+        for is_shared in [false, true] {
+            let (lives, cache) = (lives(), Objects::open(&small()).unwrap());
+            cache.insert(&KEY, Object::new(&lives, 1), 60).unwrap();
+            let held: Vec<_> = (0..holds).map(|_| cache.get(&KEY).unwrap()).collect();
+            let object = Object::new(&lives, 2);
+            let object = if is_shared {
+                Arc::new(object).into()
+            } else {
+                object.into()
+            };
+            let came = called(call, &cache, &key, object, charge);
+            let (answer, back) = match &came {
+                Ok((it, held)) => (Ok(*it), held.as_ref().map(|it| it.number)),
+                Err(it) => (Err(it.why), Some(it.object.number)),
+            };
+            assert_eq!(answer, wanted, "row {number}");
+            assert!(
+                back.is_none() || (back, count(&lives)) == (Some(2), 2),
+                "row {number}"
+            );
+            drop(came);
+            assert_eq!(count(&lives), left, "row {number}");
+            drop((held, cache));
+            assert_eq!(count(&lives), 0, "row {number}");
         }
-    };
-    for shared in [false, true] {
-        // A key, a charge, the answer, and how many live then: those of the cache, and one that came back.
-        let rows = [
-            (KEY, 0, Err(Refused::NO_CHARGE), 0),
-            (KEY, 60, Ok(Placed), 1),
-            (KEY, 60, Ok(Dropped), 1),
-            (OTHER, 101, Err(Refused::TOO_LARGE), 1),
-            (OTHER, 60, Ok(Placed), 1), // in place of the first
-            (OTHER, 60, Ok(Dropped), 1),
-        ];
-        for (key, charge, wanted, left) in rows {
-            for at in [None, Some(Priority::Low)] {
-                if (at, wanted) == (Some(Priority::Low), Ok(Placed)) {
-                    continue; // it is there by now
-                }
-                let came = match at {
-                    None => cache.insert(&key, made(shared), charge),
-                    Some(priority) => cache.insert_at(&key, made(shared), charge, priority),
-                };
-                assert_eq!(came.as_ref().map_err(|it| it.why).copied(), wanted);
-                if let Err(it) = &came {
-                    assert_eq!((it.object.number, count(&lives)), (1, left + 1));
-                }
-                drop((came, share.lock().unwrap().take()));
-                assert_eq!(count(&lives), left);
-            }
-        }
-        let (came, alone) = cache
-            .insert_pinned(&OTHER, made(shared), 60, Priority::High)
-            .unwrap();
-        *share.lock().unwrap() = None;
-        assert_eq!((came, alone.key(), alone.charge()), (Standalone, OTHER, 60));
-        assert_eq!(count(&lives), 2);
-        assert!(alone.release(true, false));
-        let held = cache.get(&OTHER).unwrap();
-        let full = cache.insert(&KEY, made(shared), 60).unwrap_err();
-        assert_eq!((full.why, full.object.number), (Refused::CAPACITY_FULL, 1));
-        drop((full, share.lock().unwrap().take()));
-        let more: Vec<_> = (0..3).map(|_| cache.get(&OTHER).unwrap()).collect();
-        assert!(cache.get(&OTHER).is_none());
-        let full = cache.insert(&OTHER, made(shared), 60).unwrap_err();
-        assert_eq!(full.why, Refused::HANDLES_FULL);
-        drop((full, share.lock().unwrap().take()));
-        assert_eq!((cache.erase(&OTHER), cache.erase(&OTHER)), (Ok(1), Ok(0)));
-        drop(more);
-        held.check();
-        assert_eq!(count(&lives), 1);
-        assert!(held.release(true, false));
-        assert_eq!(count(&lives), 0);
+    }
+}
+
+#[test]
+fn what_is_held_stays_when_it_was_erased() {
+    let (lives, cache) = (lives(), Objects::open(&small()).unwrap());
+    cache.insert(&KEY, Object::new(&lives, 1), 60).unwrap();
+    let held: Vec<_> = (0..4).map(|_| cache.get(&KEY).unwrap()).collect();
+    assert!(cache.get(&KEY).is_none()); // no handle is left
+    assert_eq!((cache.erase(&KEY), cache.erase(&KEY)), (Ok(1), Ok(0)));
+    for (number, it) in held.into_iter().enumerate() {
+        it.check();
+        assert_eq!(it.release(true, false), number == 3);
+        cache.collect();
+        assert_eq!(count(&lives), isize::from(number < 3));
     }
     let bad = ObjectConfig {
         slots: 9,
@@ -181,7 +208,7 @@ fn objects_of_no_bytes_and_walks() {
     );
 }
 
-// ---- Who closes a cache --------------------------------------------------------------------------
+// ---- Who closes a cache -------------------------------------------------------------------------
 
 thread_local! {
     static LATE: RefCell<Option<Pinned<Object>>> = const { RefCell::new(None) };
@@ -265,225 +292,81 @@ fn drops_close_caches_within_calls_of_others() {
     assert_eq!(count(&lives), 0);
 }
 
-// ---- Drops that panic ----------------------------------------------------------------------------
+// ---- Drops that panic ---------------------------------------------------------------------------
+
+/// A cache that is full of six objects, of which all but two panic when they are dropped.
+fn of_panicking(lives: &Lives) -> Objects<Object> {
+    let cache = Objects::open(&small()).unwrap();
+    for number in 0..6 {
+        let mut object = Object::new(lives, number);
+        object.panics = number > 1;
+        assert_eq!(
+            cache.insert(&key_of(number), object, 10).unwrap(),
+            Inserted::Placed
+        );
+    }
+    cache
+}
+
+fn panics<T>(calls: impl FnOnce() -> T) -> bool {
+    catch_unwind(AssertUnwindSafe(calls)).is_err()
+}
+
+/// Ways in which they go, of which each panics where objects of it do.
+const WAYS: [(&str, fn(Objects<Object>, Object)); 6] = [
+    ("evicted", |cache, last| {
+        assert!(panics(|| cache.insert(&KEY, last, 100)));
+        assert_eq!(
+            (cache.iter().count(), cache.get(&KEY).unwrap().number),
+            (1, 9)
+        );
+    }),
+    ("erased", |cache, _| {
+        for number in 0..8 {
+            let panicked = panics(|| assert!(cache.erase(&key_of(number)).is_ok()));
+            assert_eq!(panicked, (2..6).contains(&number));
+        }
+    }),
+    ("released", |cache, _| {
+        let held = cache.get(&key_of(2)).unwrap();
+        assert_eq!(cache.erase(&key_of(2)), Ok(1));
+        assert!(panics(|| drop(held)));
+        assert!(panics(|| cache
+            .get(&key_of(3))
+            .unwrap()
+            .release(true, true)));
+        assert!(!panics(|| cache
+            .get(&key_of(0))
+            .unwrap()
+            .release(true, true)));
+        assert!(panics(|| drop(cache)));
+    }),
+    ("closed", |cache, _| assert!(panics(|| drop(cache)))),
+    ("closed by what was held", |cache, _| {
+        let held = cache.get(&key_of(0)).unwrap();
+        drop(cache);
+        assert!(panics(|| held.release(false, false)));
+    }),
+    ("closed, unwinding", |cache, _| {
+        let held = cache.get(&key_of(0)).unwrap();
+        assert!(panics(|| {
+            let _both = (cache, held);
+            panic!("the program's own");
+        }));
+    }),
+];
 
 #[test]
 fn drops_that_panic_leave_none_behind() {
-    type Way = fn(Objects<Object>);
-    let ways: [(&str, Way); 5] = [
-        ("evicted", |cache| {
-            let all = Object::new(&cache.get(&key_of(0)).unwrap().lives, 9);
-            let came = catch_unwind(AssertUnwindSafe(|| cache.insert(&KEY, all, 100)));
-            assert!(cache.get(&KEY).is_some());
-            drop(cache);
-            std::panic::resume_unwind(came.unwrap_err())
-        }),
-        ("erased", |cache| {
-            for number in 0..8 {
-                let erases = || cache.erase(&key_of(number));
-                let panicked = catch_unwind(AssertUnwindSafe(erases)).is_err();
-                assert_eq!(panicked, (2..6).contains(&number));
-            }
-            assert_eq!(cache.iter().count(), 0);
-            drop(cache);
-            panic!("object 2");
-        }),
-        ("released", |cache| {
-            let held = cache.get(&key_of(2)).unwrap();
-            assert_eq!(cache.erase(&key_of(2)), Ok(1));
-            drop((cache, held));
-        }),
-        ("closed", |cache| drop(cache)),
-        ("closed, unwinding", |cache| {
-            let _cache = cache;
-            panic!("object 2");
-        }),
-    ];
-    for (name, way) in ways {
+    for (name, go) in WAYS {
         let lives = lives();
-        let cache = Objects::open(&small()).unwrap();
-        for number in 0..8 {
-            let mut it = Object::new(&lives, number);
-            it.panics = number > 1;
-            // All places of the shard, which are fewer than its slots.
-            if cache.insert(&key_of(number), it, 10).is_err() {
-                unreachable!("{name}");
-            }
-            if count(&lives) > 5 {
-                break;
-            }
-        }
-        let panic = catch_unwind(AssertUnwindSafe(|| way(cache))).unwrap_err();
-        let text = panic.downcast_ref::<String>().map(String::as_str);
-        let text = text
-            .or_else(|| panic.downcast_ref::<&str>().copied())
-            .unwrap();
-        assert!(text.starts_with("object "), "{name}: {text}");
+        let (cache, last) = (of_panicking(&lives), Object::new(&lives, 9));
+        go(cache, last);
         assert_eq!(count(&lives), 0, "{name}");
     }
 }
 
-// ---- Loaders -------------------------------------------------------------------------------------
-
-#[derive(Clone, Copy, PartialEq, Debug)]
-enum Fault {
-    None,
-    Fails,
-    Panics,
-}
-
-#[test]
-fn one_loads_and_the_others_wait() {
-    const THREADS: usize = 9;
-    for (fault, faults) in [(Fault::None, 0), (Fault::Fails, 3), (Fault::Panics, 3)] {
-        let (cache, lives) = (Objects::open(&ObjectConfig::default()).unwrap(), lives());
-        let (begun, loads) = (AtomicUsize::new(0), AtomicUsize::new(0));
-        let load = || {
-            while begun.load(SeqCst) < THREADS {
-                thread::yield_now();
-            }
-            match loads.fetch_add(1, SeqCst) {
-                number if number >= faults => Ok((Object::new(&lives, 5), 3)),
-                number if fault == Fault::Fails => Err(number),
-                number => panic!("load {number}"),
-            }
-        };
-        let work = || {
-            begun.fetch_add(1, SeqCst);
-            catch_unwind(AssertUnwindSafe(|| cache.get_or_insert_with(&KEY, load)))
-        };
-        let came: Vec<_> = thread::scope(|scope| {
-            let threads: Vec<_> = (0..THREADS).map(|_| scope.spawn(work)).collect();
-            threads.into_iter().map(|it| it.join().unwrap()).collect()
-        });
-        let (mut failed, mut panicked, mut found) = (vec![], 0, vec![]);
-        for it in came {
-            match it {
-                Ok(Ok(held)) => found.push(held),
-                Ok(Err(why)) => failed.push(why),
-                Err(_) => panicked += 1,
-            }
-        }
-        failed.sort_by_key(|it| match it {
-            LoadError::Failed(number) => *number,
-            LoadError::OwnKey => unreachable!(),
-        });
-        let each: Vec<_> = (0..failed.len()).map(LoadError::Failed).collect();
-        assert_eq!(
-            (loads.into_inner(), failed.len() + panicked),
-            (faults + 1, faults)
-        );
-        assert_eq!((failed, panicked > 0), (each, fault == Fault::Panics));
-        assert!(found.len() == THREADS - faults && found.iter().all(|it| it.number == 5));
-        assert_eq!(count(&lives), 1);
-        drop((found, cache));
-        assert_eq!(count(&lives), 0);
-    }
-}
-
-#[test]
-fn a_loader_that_waits_for_itself_is_told() {
-    let cache = Objects::<u8>::open(&ObjectConfig::default()).unwrap();
-    let get = |key, inner| cache.get_or_insert_with(key, || Ok::<_, ()>((inner, 1)));
-    let met = Barrier::new(2);
-    let ask = |mine: &'static [u8; 16], other: &'static [u8; 16]| {
-        let mut told = None;
-        let held = cache.get_or_insert_with(mine, || {
-            met.wait();
-            told = Some(get(other, 2).map(|it| *it));
-            Ok::<_, ()>((1, 1))
-        });
-        (*held.unwrap(), told.unwrap())
-    };
-    let mut both = thread::scope(|scope| {
-        let one = scope.spawn(|| ask(&KEY, &OTHER));
-        [ask(&OTHER, &KEY), one.join().unwrap()]
-    });
-    both.sort_by_key(|it| it.1.is_ok());
-    assert_eq!(both, [(1, Err(LoadError::OwnKey)), (1, Ok(1))]);
-    let nested = cache.get_or_insert_with(&[9; 16], || {
-        assert_eq!(*get(&[8; 16], 4).unwrap(), 4); // another key is free
-        get(&[9; 16], 5).map(|it| (*it, 1))
-    });
-    assert_eq!(nested.unwrap_err(), LoadError::Failed(LoadError::OwnKey));
-    assert_eq!(*get(&[9; 16], 6).unwrap(), 6);
-}
-
-#[test]
-fn what_is_loaded_is_given_whatever_the_cache_answers() {
-    let (cache, lives) = (Objects::open(&small()).unwrap(), lives());
-    for (charge, is_kept, has) in [(101, false, 101), (0, true, 1)] {
-        let load = || Ok::<_, ()>((Object::new(&lives, 6), charge));
-        let held = cache.get_or_insert_with(&KEY, load).unwrap();
-        assert_eq!((held.number, held.charge(), held.key()), (6, has, KEY));
-        assert_eq!(cache.get(&KEY).is_some(), is_kept);
-        drop(held);
-        assert_eq!(count(&lives), isize::from(is_kept));
-    }
-}
-
-// ---- Keys of any type ----------------------------------------------------------------------------
-
-/// Hashes by which all keys are alike.
-#[derive(Default)]
-struct Alike;
-
-impl Hasher for Alike {
-    fn write(&mut self, _: &[u8]) {}
-
-    fn finish(&self) -> u64 {
-        7
-    }
-}
-
-#[test]
-fn keys_of_equal_hashes_are_told_apart() {
-    let all = ObjectConfig::default();
-    let alike = BuildHasherDefault::<Alike>::default();
-    let unlike = BuildHasherDefault::<DefaultHasher>::default();
-    let alike = HashedObjects::<String, u8, _>::open_with(&all, alike).unwrap();
-    let unlike = HashedObjects::<String, u8, _>::open_with(&all, unlike).unwrap();
-    let mut came = vec![
-        alike.insert("a".into(), 1, 1),
-        alike.insert("b".into(), 2, 1),
-    ];
-    came.extend([
-        unlike.insert("a".into(), 1, 1),
-        unlike.insert("b".into(), 2, 1),
-    ]);
-    let came: Vec<_> = came.into_iter().map(Result::unwrap).collect();
-    assert_eq!(came[..2], [Inserted::Placed, Inserted::Dropped]);
-    assert_eq!(came[2..], [Inserted::Placed, Inserted::Placed]);
-    assert_eq!(
-        (*alike.get("a").unwrap(), *unlike.get("b").unwrap()),
-        (1, 2)
-    );
-    assert!(alike.get("b").is_none());
-    let refused = unlike.insert("c".into(), 3, 0).unwrap_err();
-    assert_eq!(
-        (refused.why, refused.object),
-        (Refused::NO_CHARGE, ("c".into(), 3))
-    );
-    // Loads of one hash don't wait for one another, and each gives its own key's.
-    let outer = alike.get_or_insert_with("b", || {
-        let inner = alike
-            .get_or_insert_with("c", || Ok::<_, ()>((3, 1)))
-            .unwrap();
-        assert_eq!((inner.key().as_str(), *inner), ("c", 3));
-        Ok::<_, ()>((2, 1))
-    });
-    assert_eq!(
-        (
-            outer.as_ref().unwrap().key().as_str(),
-            **outer.as_ref().unwrap()
-        ),
-        ("b", 2)
-    );
-    assert_eq!((alike.iter().count(), unlike.iter().count()), (1, 2));
-    assert_eq!((unlike.erase("a"), unlike.erase("a")), (Ok(1), Ok(0)));
-}
-
-// ---- Eight threads at once -----------------------------------------------------------------------
+// ---- Eight threads at once ----------------------------------------------------------------------
 
 const KEYS: u64 = 200;
 const THREADS: u64 = 8;
