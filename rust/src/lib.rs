@@ -1,8 +1,9 @@
 //! A block cache of fixed slots for many threads, without locks: `libferretgold` for Rust. What each
-//! call does, costs and refuses, `ferretgold.h` says, `ferretgold_closed.h` of a closed cache, and
-//! `ferretgold_image.h` of one that begins with entries. The build links `libferretgold.a` of the folder
-//! that `FERRETGOLD_LIBRARIES` names, else of the place where the crate was installed or checked out; and
-//! with the feature `file`, which saves and loads caches, also `libferretgold_file.a`.
+//! call does, costs and refuses, `ferretgold.h` says, `ferretgold_closed.h` of a closed cache,
+//! `ferretgold_image.h` of one that begins with entries, and `ferretgold_object.h` of one of objects.
+//! The build links `libferretgold.a` of the folder that `FERRETGOLD_LIBRARIES` names, else of the
+//! place where the crate was installed or checked out; and with the feature `file`, which saves and
+//! loads caches, also `libferretgold_file.a`.
 //!
 //! A [`Cache`] is shared by reference, and any thread may take a [`Client`] of it. A client is used by
 //! one thread at a time: it is `Send` and not `Sync`. A [`Handle`] borrows its client and gives itself
@@ -37,6 +38,20 @@
 //! assert_eq!(handle.read(&mut block)?, 4);
 //! assert!(yours.lookup(key)?.is_none());
 //! assert!(handle.release(true, false)); // freed: it was the last one
+//! # Ok(())
+//! # }
+//! ```
+//!
+//! [`Objects`] is a cache of values of the program's, which are read where they lie; its calls need no
+//! client:
+//!
+//! ```
+//! # use ferretgold::{ObjectConfig, Objects};
+//! # fn main() -> Result<(), Box<dyn std::error::Error>> {
+//! let cache = Objects::open(&ObjectConfig::sized(1 << 20, 4096))?;
+//! cache.insert(&[7; 16], vec![b'x'; 4096], 4096)?;
+//! let block = cache.get(&[7; 16]).expect("nothing else is there");
+//! std::thread::spawn(move || assert_eq!(block.len(), 4096)).join().unwrap();
 //! # Ok(())
 //! # }
 //! ```

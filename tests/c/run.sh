@@ -2,8 +2,8 @@
 # Builds the library and the examples for C, C++ and Rust, and runs them: the misuses that the
 # header names among them, C with each request for memory refused; plays traces of calls through the
 # headers; lets threads borrow clients, read values that others replace, and hand objects back, by the
-# proved calls and by the header for objects; and C and C++ again with the C file under AddressSanitizer
-# and UndefinedBehaviorSanitizer, the threads under ThreadSanitizer. It wants
+# proved calls, by the header for objects and by the Rust crate; and all of it again with the C file under
+# AddressSanitizer and UndefinedBehaviorSanitizer, the threads under ThreadSanitizer. It wants
 # crates/hcc_c/out/libhcc_c.a, as `rt lib` in crates/hcc_c makes it, and fails where a compiler is
 # missing.
 # Usage: tests/c/run.sh [READS]     of values that others replace: 4,000,000 by default
@@ -67,6 +67,17 @@ owns() {
         && ! "$folder/built" owned > "$folder/met" 2>&1 \
         && grep -qE '^ferretgold: object 0x[0-9a-f]+ of kind 3 stands in the cache already: ferretgold_object_insert$' \
             "$folder/met" && [[ $(wc -l < "$folder/met") == 1 ]]
+}
+
+# The crate's tests of objects: objects_in_rust LIBRARY WORD..
+objects_in_rust() {
+    local name words=(--edition 2021 -O -D warnings) sanitizer=
+    [[ $# == 1 ]] || sanitizer=$(readlink -f "$(cc -print-file-name=libasan.so)")
+    rustc "${words[@]}" --crate-type rlib --crate-name ferretgold rust/src/lib.rs --out-dir "$folder" || return
+    for name in objects loads; do
+        rustc "${words[@]}" --test "rust/tests/$name.rs" --extern "ferretgold=$folder/libferretgold.rlib" \
+            -C link-arg="$1" "${@:2}" -o "$folder/built" && LD_PRELOAD=$sanitizer "$folder/built" || return
+    done
 }
 
 # Builds a program and runs it: runs WORD..
@@ -140,7 +151,8 @@ in_cpp='each block is right: yes
 1306 reads, 1306 counted, more hits than misses: yes
 within the capacity: yes'
 sanitize=(-fsanitize=address,undefined -fno-sanitize-recover=all)
-in_rust='40000 squares are right, and the books agree with the slots'
+in_rust='40000 squares are right, and the books agree with the slots
+40000 blocks are right'
 
 wrap=-Wl,--wrap=malloc,--wrap=realloc,--wrap=aligned_alloc,--wrap=free
 library=src/out/libferretgold.a
@@ -202,6 +214,11 @@ else
 fi
 if command -v rustc > /dev/null; then
     tries "Rust" prints "$in_rust" run-rust
+    tries "objects in Rust" objects_in_rust src/out/libferretgold.a
+    tries "objects in Rust, checked" objects_in_rust src/out/libferretgold_check.a
+    if sanitizes c cc; then
+        tries "objects in Rust, sanitized" objects_in_rust "$library" -C link-args="-lasan -lubsan"
+    fi
 else
     lacks "Rust compiler"
 fi
