@@ -66,10 +66,13 @@ const MOST_SHARDS: u64 = 64;
 /// How many slots are worth a shard, up to so many shards.
 const WORTH: u64 = 4096;
 const USUAL_SHARDS: u64 = 16;
+const FEWEST_HANDLES: u64 = 16;
+const MOST_HANDLES: u64 = 256;
 
 impl ObjectConfig {
     /// One of this capacity, whose entries usually have this charge: with ten slots or more for
-    /// seven of them, up to 4,194,304 slots, and a seed that is drawn.
+    /// seven of them, up to 4,194,304 slots; for each of 64 clients a handle for 64 slots, at least
+    /// 16 and at most 256; and with a seed that is drawn.
     pub fn sized(capacity: u64, charge: u64) -> ObjectConfig {
         let wanted = (capacity / charge.max(1)).saturating_mul(10) / 7;
         let slots = wanted
@@ -81,6 +84,7 @@ impl ObjectConfig {
         ObjectConfig {
             slots: (slots / shards) as u32,
             shards: shards as u32,
+            handles: (slots / 64).clamp(FEWEST_HANDLES, MOST_HANDLES) as u32,
             capacity,
             seed: RandomState::new().build_hasher().finish() | 1,
             ..ObjectConfig::default()

@@ -38,6 +38,9 @@ use std::thread::available_parallelism;
 /// never wait, and allocate only an object's box. The last of a cache's clones and [`Pinned`]s
 /// closes it, on its thread.
 ///
+/// That the table hands each object back once is proved; what the header and this crate add is
+/// tested.
+///
 /// **Who owns an object**
 ///
 /// | Insertion | The object is then |
@@ -106,7 +109,8 @@ impl<V> Objects<V> {
         })
     }
 
-    /// Inserts an object that survives as many visits of the clock as its priority says.
+    /// Inserts an object that survives as many visits of the clock as its priority says. Refuses as
+    /// `ferretgold_object_insert` does.
     pub fn insert_at(
         &self,
         key: &[u8; 16],

@@ -61,16 +61,18 @@ thread_local! {
 impl Drop for Object {
     fn drop(&mut self) {
         let found = self.canary.swap(0, SeqCst);
-        self.lives.fetch_sub(1, SeqCst);
-        if found != CANARY ^ self.number {
-            self.lives.fetch_sub(1 << 32, SeqCst);
-        }
         CALLED.with(|it| {
             if let Some(cache) = &*it.borrow() {
                 let _ = cache.erase(&key_of(self.number % KEYS));
                 drop(cache.get(&key_of((self.number + 1) % KEYS)));
             }
         });
+        let many = if found == CANARY ^ self.number {
+            1
+        } else {
+            1 << 32
+        };
+        self.lives.fetch_sub(many, SeqCst);
         assert!(!self.panics, "object {}", self.number);
     }
 }
@@ -196,7 +198,10 @@ fn objects_of_no_bytes_and_walks() {
     cache.iter().for_each(|it| assert!(it.release(false, true)));
     assert_eq!(cache.iter().count(), 0);
     let sized = ObjectConfig::sized(1 << 30, 4096);
-    assert_eq!((sized.slots, sized.shards), (32_768, 16));
+    assert_eq!(
+        (sized.slots, sized.shards, sized.handles),
+        (32_768, 16, 256)
+    );
     assert_eq!(
         ObjectConfig::sized(0, 0).check(),
         Err(Refused::BAD_CAPACITY)
@@ -312,10 +317,14 @@ fn panics<T>(calls: impl FnOnce() -> T) -> bool {
     catch_unwind(AssertUnwindSafe(calls)).is_err()
 }
 
+type Way = fn(Objects<Object>, Object);
+
 /// Ways in which they go, of which each panics where objects of it do.
-const WAYS: [(&str, fn(Objects<Object>, Object)); 6] = [
-    ("evicted", |cache, last| {
+const WAYS: [(&str, Way); 6] = [
+    ("evicted, with drops that call the cache", |cache, last| {
+        CALLED.with(|it| *it.borrow_mut() = Some(cache.clone()));
         assert!(panics(|| cache.insert(&KEY, last, 100)));
+        drop(CALLED.with(|it| it.borrow_mut().take()));
         assert_eq!(
             (cache.iter().count(), cache.get(&KEY).unwrap().number),
             (1, 9)
