@@ -69,12 +69,14 @@ is_block_cache() {
         -Wl,-rpath,"$prefix/lib" -pthread -o "$folder/built" && "$folder/built" "$folder/rocksdb"
 }
 
-# The crate, its example and its tests.
+# The crate, its examples and its tests.
 by_rustc() {
-    local it=$prefix/share/ferretgold/rust words=(--edition 2021 -O -D warnings)
+    local example it=$prefix/share/ferretgold/rust words=(--edition 2021 -O -D warnings)
     rustc "${words[@]}" --crate-type rlib --crate-name ferretgold "$it/src/lib.rs" --out-dir "$folder" || return
     words+=(--extern "ferretgold=$folder/libferretgold.rlib" -L "$prefix/lib" -l static=ferretgold)
-    builds rustc "${words[@]}" "$it/examples/threads.rs" || return
+    for example in threads objects; do
+        builds rustc "${words[@]}" "$it/examples/$example.rs" || return
+    done
     export CARGO_PKG_VERSION=$version
     builds rustc "${words[@]}" --test "$it/tests/calls.rs" && leaks_nothing
 }
