@@ -111,7 +111,7 @@ impl<V> Objects<V> {
 
     /// Inserts an object that survives as many visits of the clock as its priority says. Refuses as
     /// `ferretgold_object_insert` does.
-    pub fn insert_at(
+    pub fn insert_with_priority(
         &self,
         key: &[u8; 16],
         object: impl Into<Owned<V>>,
@@ -201,8 +201,8 @@ impl<V> Objects<V> {
         self.home().cache().collect();
     }
 
-    /// Holds each visible entry in turn, slot by slot, while others change them. Giving it back is
-    /// no use.
+    /// Holds each visible entry in turn, slot by slot, while others change them; not one for which
+    /// no handle is to be had. Giving it back is no use.
     pub fn iter(&self) -> impl Iterator<Item = Pinned<V>> + '_ {
         let ObjectConfig { shards, slots, .. } = self.config();
         (0..shards).flat_map(move |shard| {

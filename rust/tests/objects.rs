@@ -1,10 +1,12 @@
 //! Caches of objects: who owns an object after each answer, and that each is dropped once, on
 //! whatever thread, also where drops panic; and threads whose objects check themselves.
 
-use ferretgold::{Inserted, ObjectConfig, Objects, Owned, Pinned, Priority, Refused, Rejected};
+use ferretgold::{
+    Inserted, LoadError, ObjectConfig, Objects, Owned, Pinned, Priority, Refused, Rejected,
+};
 use std::cell::RefCell;
 use std::panic::{catch_unwind, AssertUnwindSafe};
-use std::sync::atomic::{AtomicIsize, AtomicU64, Ordering::SeqCst};
+use std::sync::atomic::{AtomicBool, AtomicIsize, AtomicU64, Ordering::SeqCst};
 use std::sync::{Arc, Mutex};
 use std::thread;
 
@@ -90,7 +92,7 @@ fn count(lives: &Lives) -> isize {
 #[derive(Clone, Copy, Debug)]
 enum Call {
     Insert,
-    InsertAt,
+    WithPriority,
     InsertPinned,
 }
 
@@ -105,8 +107,8 @@ fn called(
 ) -> Came {
     match call {
         Call::Insert => cache.insert(key, object, charge).map(|it| (it, None)),
-        Call::InsertAt => {
-            let it = cache.insert_at(key, object, charge, Priority::Low);
+        Call::WithPriority => {
+            let it = cache.insert_with_priority(key, object, charge, Priority::Low);
             it.map(|it| (it, None))
         }
         Call::InsertPinned => {
@@ -129,10 +131,10 @@ fn each_answer_says_who_owns_the_object() {
         (0, Insert, OTHER, 101, Err(Refused::TOO_LARGE), 1),
         (1, Insert, OTHER, 60, Err(Refused::CAPACITY_FULL), 1),
         (4, Insert, OTHER, 40, Err(Refused::HANDLES_FULL), 1),
-        (4, InsertAt, OTHER, 40, Ok(Placed), 2),
-        (0, InsertAt, KEY, 10, Ok(Dropped), 1),
-        (0, InsertAt, OTHER, 0, Err(Refused::NO_CHARGE), 1),
-        (1, InsertAt, OTHER, 60, Err(Refused::CAPACITY_FULL), 1),
+        (4, WithPriority, OTHER, 40, Ok(Placed), 2),
+        (0, WithPriority, KEY, 10, Ok(Dropped), 1),
+        (0, WithPriority, OTHER, 0, Err(Refused::NO_CHARGE), 1),
+        (1, WithPriority, OTHER, 60, Err(Refused::CAPACITY_FULL), 1),
         (0, InsertPinned, KEY, 10, Ok(Standalone), 1),
         (0, InsertPinned, OTHER, 40, Ok(Placed), 2),
         (0, InsertPinned, OTHER, 101, Err(Refused::TOO_LARGE), 1),
@@ -387,12 +389,58 @@ fn key_of(number: u64) -> [u8; 16] {
     key
 }
 
-struct Worker {
+/// What the threads share.
+struct All {
     cache: Objects<Object>,
     lives: Lives,
-    mail: Arc<Vec<Mutex<Option<Pinned<Object>>>>>,
+    mail: Vec<Mutex<Option<Pinned<Object>>>>,
+    loading: Vec<AtomicBool>,
+}
+
+struct Worker {
+    all: Arc<All>,
     held: Vec<Pinned<Object>>,
     state: u64,
+}
+
+fn charge_of(number: u64) -> u32 {
+    1 + (number % 8) as u32
+}
+
+impl All {
+    fn insert(&self, call: Call, number: u64) -> Option<Pinned<Object>> {
+        let object = Object::new(&self.lives, number);
+        let object = match number % 2 {
+            0 => Arc::new(object).into(),
+            _ => object.into(),
+        };
+        let came = called(
+            call,
+            &self.cache,
+            &key_of(number),
+            object,
+            charge_of(number),
+        );
+        came.ok().and_then(|(_, held)| held)
+    }
+
+    fn load(&self, number: u64, fails: bool) -> Option<Pinned<Object>> {
+        let loading = &self.loading[number as usize];
+        let load = || {
+            assert!(!loading.swap(true, SeqCst), "two load object {number}");
+            let object = Object::new(&self.lives, number);
+            thread::yield_now();
+            loading.store(false, SeqCst);
+            (!fails).then(|| (object, charge_of(number))).ok_or(())
+        };
+        match self.cache.get_or_insert_with(&key_of(number), load) {
+            Ok(held) => Some(held),
+            Err(why) => {
+                assert!(fails && why == LoadError::Failed(()));
+                None
+            }
+        }
+    }
 }
 
 impl Worker {
@@ -404,111 +452,83 @@ impl Worker {
     }
 
     fn operation(&mut self) {
-        let number = self.drawn(KEYS);
-        let (key, charge) = (key_of(number), 1 + (number % 8) as u32);
-        let object = |it: &Worker| Object::new(&it.lives, number);
+        let (number, place) = (self.drawn(KEYS), self.drawn(16) as usize);
+        let all = Arc::clone(&self.all);
         let held = match self.drawn(16) {
-            0 => self
-                .cache
-                .insert(&key, object(self), charge)
-                .map(|_| None)
-                .unwrap_or(None),
-            1 => self
-                .cache
-                .insert(&key, Arc::new(object(self)), charge)
-                .map(|_| None)
-                .unwrap_or(None),
-            2 => {
-                let it = self
-                    .cache
-                    .insert_at(&key, object(self), charge, Priority::High);
-                it.map(|_| None).unwrap_or(None)
-            }
-            3 => {
-                let it = self
-                    .cache
-                    .insert_pinned(&key, object(self), charge, Priority::Low);
-                it.ok().map(|(_, held)| held)
-            }
-            4 | 5 => {
-                let load = || Ok::<_, ()>((object(self), charge));
-                match self.cache.get_or_insert_with(&key, load) {
-                    Ok(held) => Some(held),
-                    Err(why) => panic!("{why:?}"),
-                }
-            }
-            6 => {
-                let _ = self.cache.erase(&key);
-                None
-            }
-            7 => self.held.pop().and_then(|it| {
-                let place = self.drawn(self.mail.len() as u64) as usize;
-                self.mail[place].lock().unwrap().replace(it)
-            }),
-            8 if number == 0 => self.cache.iter().nth(number as usize % 8),
-            _ => self.cache.get(&key),
+            0 | 1 => all.insert(Call::Insert, number),
+            2 => all.insert(Call::WithPriority, number),
+            3 => all.insert(Call::InsertPinned, number),
+            4 | 5 => all.load(number, place == 0),
+            6 => all.cache.erase(&key_of(number)).ok().and(None),
+            7 => self
+                .held
+                .pop()
+                .and_then(|it| all.mail[place].lock().unwrap().replace(it)),
+            8 if number == 0 => all.cache.iter().nth(place),
+            _ => all.cache.get(&key_of(number)),
         };
         if let Some(it) = held {
             it.check();
             assert_eq!(
                 (it.key(), it.charge()),
-                (key_of(it.number), 1 + (it.number % 8) as u32)
+                (key_of(it.number), charge_of(it.number))
             );
             self.held.push(it);
         }
         if self.held.len() > 6 || self.drawn(2) == 0 {
-            let before = self.held.len();
-            self.held.truncate(before / 2);
+            self.held.truncate(self.held.len() / 2);
         }
+    }
+
+    fn work(mut self, operations: u64) {
+        CALLED.with(|it| *it.borrow_mut() = Some(self.all.cache.clone()));
+        (0..operations).for_each(|_| self.operation());
+        drop(CALLED.with(|it| it.borrow_mut().take()));
     }
 }
 
 #[test]
 fn objects_check_themselves_under_eight_threads() {
-    let (many, each) = (THREADS as u32, OPERATIONS / 4 / THREADS);
-    for (clients, handles, strict) in [
+    let many = THREADS as u32;
+    let rows = [
         (many + 1, 16, false),
         (3, 16, true),
         (24, 2, false),
         (7, 3, true),
-    ] {
-        let (lives, mail) = (lives(), (0..16).map(|_| Mutex::new(None)).collect());
-        let (mail, config) = (
-            Arc::new(mail),
-            ObjectConfig {
-                slots: 128,
-                shards: 2,
-                clients,
-                handles,
-                capacity: 400,
-                strict,
-                ..small()
-            },
-        );
-        let cache = Objects::open(&config).unwrap();
-        let threads: Vec<_> = (1..=THREADS)
-            .map(|state| Worker {
-                cache: cache.clone(),
-                lives: lives.clone(),
-                mail: Arc::clone(&mail),
-                held: Vec::new(),
-                state: state.wrapping_mul(0x9e37_79b9_7f4a_7c15),
-            })
-            .map(|mut worker| {
-                thread::spawn(move || {
-                    CALLED.with(|it| *it.borrow_mut() = Some(worker.cache.clone()));
-                    (0..each).for_each(|_| worker.operation());
-                    let calls = CALLED.with(|it| it.borrow_mut().take());
-                    drop((calls, worker));
-                })
-            })
-            .collect();
-        drop(cache);
+    ];
+    for (clients, handles, strict) in rows {
+        let (slots, shards, capacity) = (128, 2, 400);
+        let sizes = ObjectConfig {
+            slots,
+            shards,
+            capacity,
+            ..small()
+        };
+        let config = ObjectConfig {
+            clients,
+            handles,
+            strict,
+            ..sizes
+        };
+        let all = Arc::new(All {
+            cache: Objects::open(&config).unwrap(),
+            lives: lives(),
+            mail: (0..16).map(|_| Mutex::new(None)).collect(),
+            loading: (0..KEYS).map(|_| AtomicBool::new(false)).collect(),
+        });
+        let worker = |number: u64| Worker {
+            all: Arc::clone(&all),
+            held: Vec::new(),
+            state: number.wrapping_mul(0x9e37_79b9_7f4a_7c15),
+        };
+        let work = |it: Worker| thread::spawn(move || it.work(OPERATIONS / 4 / THREADS));
+        let threads: Vec<_> = (1..=THREADS).map(|number| work(worker(number))).collect();
         for it in threads {
             it.join().unwrap();
         }
+        let lives = Arc::clone(&all.lives);
         assert!(count(&lives) > 0, "entries and handles are left");
-        drop(mail);
+        drop(all);
         assert_eq!(count(&lives), 0, "{clients} clients of {handles} handles");
     }
 }
