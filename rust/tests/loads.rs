@@ -25,8 +25,8 @@ enum Fault {
 
 const THREADS: usize = 9;
 
-/// What came to threads that asked for one key at once, of whose loads the first ones fail: what was
-/// found, the numbers of loads that were told as errors, and how many threads panicked.
+/// What came to threads that asked for one key at once, of whose loads the first ones fail: what
+/// was found, the numbers of loads that were told as errors, and how many threads panicked.
 fn ask_at_once(fault: Fault, faults: usize) -> (Vec<Pinned<usize>>, Vec<usize>, usize) {
     let (cache, begun, loads) = (opened(), AtomicUsize::new(0), AtomicUsize::new(0));
     let load = || {

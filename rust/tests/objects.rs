@@ -121,8 +121,8 @@ fn called(
 #[test]
 fn each_answer_says_who_owns_the_object() {
     use {Call::*, Inserted::*};
-    // Where `KEY` stands with charge 60 and so many hold it: a call, its key and charge, the answer,
-    // and how many live once what that gave is dropped.
+    // Where `KEY` stands with charge 60 and so many hold it: a call, its key and charge, the
+    // answer, and how many live once what that gave is dropped.
     let rows = [
         (0, Insert, KEY, 10, Ok(Dropped), 1),
         (0, Insert, OTHER, 40, Ok(Placed), 2),
