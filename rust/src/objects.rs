@@ -34,8 +34,8 @@ use std::thread::available_parallelism;
 /// ```
 ///
 /// Keys are of 16 bytes; [`HashedObjects`](crate::HashedObjects) has keys of any type. A clone is
-/// the same cache: for structs, threads and tasks. Calls take no client; but [`get_or_insert_with`]
-/// never wait, and allocate only an object's box. The last of a cache's clones and [`Pinned`]s
+/// the same cache: for structs, threads and tasks. Calls need no client, and allocate only an
+/// object's box; [`get_or_insert_with`] alone waits. The last of a cache's clones and [`Pinned`]s
 /// closes it, on its thread.
 ///
 /// That the table hands each object back once is proved; what the header and this crate add is
