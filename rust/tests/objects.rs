@@ -204,10 +204,9 @@ fn objects_of_no_bytes_and_walks() {
         (sized.slots, sized.shards, sized.handles),
         (32_768, 16, 256)
     );
-    assert_eq!(
-        ObjectConfig::sized(0, 0).check(),
-        Err(Refused::BAD_CAPACITY)
-    );
+    assert_eq!(ObjectConfig::sized(0, 0).check(), Ok(()));
+    let above = ObjectConfig::sized((1 << 40) + 1, 4096);
+    assert_eq!(above.check(), Err(Refused::BAD_CAPACITY));
     let most = ObjectConfig::sized(1 << 40, 1);
     assert_eq!(
         (most.slots, most.shards, most.check()),
