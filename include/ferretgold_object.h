@@ -5,6 +5,7 @@
  * An object is a pointer and a kind. The cache never looks where it points, copies nothing, and
  * gives readers the pointer itself. What ferretgold.h says of keys, charges, priorities, refusals
  * and of what isn't checked holds here too; there is no copying call, and values have no size.
+ * Bytes of any length are objects that the last three calls copy in, free, and show.
  *
  *     void delete_block(void *context, const ferretgold_key *key, void *object, uint16_t kind);
  *
@@ -69,10 +70,10 @@
  *   only until its place is used again: from then on it is another handle.
  *
  * COSTS
- *   Calls allocate nothing, except opening. A look-up and a release cost what the proved calls do,
- *   a load of the charge, and some 50 instructions each. Bounds of atomic steps are those of the
- *   proved calls, times the tries of an insertion, with a release for each of at most 4 handles
- *   that other threads gave back.
+ *   Calls allocate nothing, except opening, and an insertion of bytes their copy. A look-up and a
+ *   release cost what the proved calls do, a load of the charge, and some 50 instructions each.
+ *   Bounds of atomic steps are those of the proved calls, times the tries of an insertion, with a
+ *   release for each of at most 4 handles that other threads gave back.
  */
 #ifndef FERRETGOLD_OBJECT_H
 #define FERRETGOLD_OBJECT_H
@@ -279,6 +280,38 @@ ferretgold_status ferretgold_object_erase(ferretgold_object_cache *cache,
 ferretgold_status ferretgold_object_usage(ferretgold_object_cache *cache, uint64_t *usage);
 ferretgold_status ferretgold_object_pinned_usage(ferretgold_object_cache *cache, uint64_t *usage);
 ferretgold_status ferretgold_object_occupancy(ferretgold_object_cache *cache, uint64_t *occupancy);
+
+/* ---- Bytes ----------------------------------------------------------------------------------- */
+
+/*
+ * Bytes of any length as objects: a copy in one block of malloc, which begins as malloc's blocks do
+ * and takes 16 bytes beside them. Look them up as any object, and read them in place while you hold
+ * the handle. Their kind is 0; a cache that has other objects too gives those other kinds.
+ *
+ *     ferretgold_object_open(&config, ferretgold_object_free_bytes, NULL, &cache);
+ */
+
+/* A deleter of bytes, for ferretgold_object_open, or for a deleter of yours to call for kind 0. It
+ * frees them. */
+void ferretgold_object_free_bytes(void *context, const ferretgold_key *key, void *object,
+                                  uint16_t kind);
+
+/*
+ * Inserts a copy of so many bytes, as ferretgold_object_insert inserts an object. The charge is the
+ * caller's: the length, say, and what a block takes beside it. `bytes` may be null if `length` is
+ * 0. If they aren't placed the copy is freed.
+ *
+ * Refuses OUT_OF_MEMORY, then as ferretgold_object_insert.
+ */
+ferretgold_status ferretgold_object_insert_bytes(ferretgold_object_cache *cache,
+                                                 const ferretgold_key *key, const void *bytes,
+                                                 size_t length, uint32_t charge,
+                                                 ferretgold_priority priority,
+                                                 ferretgold_inserted *inserted);
+
+/* The bytes that a handle of kind 0 shows, until it is given back, and how many: `length` may be
+ * null. Null if the handle is null, shows null, or is of another kind. */
+const void *ferretgold_object_bytes(const ferretgold_object_handle *handle, size_t *length);
 
 #ifdef __cplusplus
 }

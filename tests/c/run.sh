@@ -52,7 +52,12 @@ hands() {
 
 # Makes the calls of ferretgold_object.h, so many by threads: objects OPERATIONS LIBRARY WORD..
 objects() {
-    builds_counting "$2" cc -std=c11 "${@:3}" tests/c/object.c tests/c/object_threads.c && "$folder/built" "$1"
+    builds_counting "$2" cc -std=c11 "${@:3}" tests/c/object{,_bytes,_threads}.c && "$folder/built" "$1"
+}
+
+# The same of its wrapper for C++: wraps OPERATIONS LIBRARY WORD..
+wraps() {
+    builds_counting "$2" c++ -std=c++17 "${@:3}" tests/c/object.cpp && "$folder/built" "$1"
 }
 
 # The header for objects is one of C99 and of C++11, too: is_plain WORD..
@@ -61,11 +66,11 @@ is_plain() {
 }
 
 # The checking library sees no two threads in one client, and ends a program that inserts an object which
-# is to stand once, and does.
+# is to stand once, and does: owns KIND WORD..
 owns() {
-    objects 1000000 src/out/libferretgold_check.a -O2 -DFERRETGOLD_CHECK \
+    "${@:2}" 1000000 src/out/libferretgold_check.a -O2 -DFERRETGOLD_CHECK \
         && ! "$folder/built" owned > "$folder/met" 2>&1 \
-        && grep -qE '^ferretgold: object 0x[0-9a-f]+ of kind 3 stands in the cache already: ferretgold_object_insert$' \
+        && grep -qE "^ferretgold: object 0x[0-9a-f]+ of kind $1 stands in the cache already: ferretgold_object_insert$" \
             "$folder/met" && [[ $(wc -l < "$folder/met") == 1 ]]
 }
 
@@ -173,7 +178,7 @@ if command -v cc > /dev/null; then
     tries "threads read what others replace" reads "${1:-4000000}" "$library" -O2
     tries "threads hand objects back" hands 15000000 "$library" -O2
     tries "the header for objects" objects 1000000 "$library" -O2
-    tries "the header for objects, checked" owns
+    tries "the header for objects, checked" owns 3 objects
     tries "the header for objects in C99" is_plain cc -std=c99 -x c
     tries "two threads in one client, checked" meets
     tries "each function of the header is a symbol of the library" exports
@@ -203,11 +208,15 @@ if command -v c++ > /dev/null; then
     tries "traces in C++" plays src/out/libferretgold.a "${traces[@]}" -O2
     tries "C++ without exceptions" runs "${bare[@]}" src/out/libferretgold.a
     tries "the header for objects in C++11" is_plain c++ -std=c++11 -x c++
+    tries "objects in C++" wraps 1000000 src/out/libferretgold.a -O2
+    tries "objects in C++, checked" owns 0 wraps
+    tries "objects in C++ without exceptions" wraps 100000 src/out/libferretgold.a -O1 -fno-exceptions -fno-rtti
     if sanitizes c c++; then
         tries "C++, sanitized" prints "$in_cpp" run-cpp CXX=c++ SANITIZE=address,undefined \
             LIBRARY="$library"
         tries "traces in C++, sanitized" plays "$library" "${traces[@]}" "${sanitize[@]}"
         tries "C++ without exceptions, sanitized" runs "${bare[@]}" "${sanitize[@]}" "$library"
+        tries "objects in C++, sanitized" wraps 400000 "$library" -O1 "${sanitize[@]}"
     fi
 else
     lacks "C++ compiler"
