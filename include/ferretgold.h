@@ -6,9 +6,9 @@
  * whatever other threads do. What the library does is proved, except a little C around it that is
  * tested (SECURITY.md); docs/GUIDE.md says how to use it and how to choose the sizes. The header is
  * for C11, C++11 and later; libferretgold.a exports its functions, also those that are inline here.
- * ferretgold_large.h has calls for values of up to 16 MiB, ferretgold_closed.h reads what is left of
- * a cache, with ferretgold_image.h one begins with entries, and ferretgold_object.h has caches of
- * pointers in place of bytes.
+ * ferretgold_closed.h reads what is left of a cache, with ferretgold_image.h one begins with
+ * entries, and ferretgold_object.h has caches of pointers in place of bytes, and of bytes of any
+ * length.
  *
  *     ferretgold_config config;
  *     ferretgold_cache *cache;
@@ -70,7 +70,7 @@
  *     numbers, and the library takes each size that ferretgold_config had. Calls that fill one fill
  *     the 48 bytes that it has now.
  *   A PATCH changes neither. libferretgold.so exports the functions of this header, of _closed.h,
- *   _image.h, _large.h and _object.h, and of ferretgold_raw.h those that ferretgold_inline.h calls.
+ *   _image.h and _object.h, and of ferretgold_raw.h those that ferretgold_inline.h calls.
  */
 #ifndef FERRETGOLD_H
 #define FERRETGOLD_H
@@ -223,8 +223,7 @@ typedef struct ferretgold_stats {
     uint64_t lost;        /* compare-exchanges that lost to another thread's step */
 } ferretgold_stats;
 
-/* Outcomes of look-ups and insertions, those that calls of ferretgold_large.h make for each piece
- * among them. */
+/* Outcomes of look-ups and insertions. */
 typedef struct ferretgold_counts {
     uint64_t hits;       /* ferretgold_lookup and ferretgold_get that returned OK */
     uint64_t misses;     /* and MISS */

@@ -1,11 +1,11 @@
 // ferretgold.hpp - a wrapper of ferretgold.h for C++17: objects that give themselves back.
 //
-// ferretgold.h, ferretgold_closed.h, ferretgold_image.h and ferretgold_large.h say what each call does.
-// Here a call that may be refused has a last argument `why`, which gets its status, and throws nothing.
-// Where exceptions are on, each has a form without that argument, too, which throws a refusal as
-// ferretgold::refused; a miss is an empty handle or no entry, and is never thrown. client's insert and
-// read, closed's value and image's add return their status. ferretgold_file.hpp has the calls of
-// ferretgold_file.h.
+// ferretgold.h, ferretgold_closed.h and ferretgold_image.h say what each call does. Here a call that
+// may be refused has a last argument `why`, which gets its status, and throws nothing. Where exceptions
+// are on, each has a form without that argument, too, which throws a refusal as ferretgold::refused; a
+// miss is an empty handle or no entry, and is never thrown. client's insert and read, closed's value and
+// image's add return their status. ferretgold_file.hpp has the calls of ferretgold_file.h, and
+// ferretgold_object.hpp those of ferretgold_object.h.
 //
 // Objects may go in any order: a client goes back once it and all its handles are gone, and a cache is
 // closed once it and all its clients are. A move assignment exchanges the two, unless they are handles.
@@ -15,7 +15,6 @@
 #include "ferretgold.h"
 #include "ferretgold_closed.h"
 #include "ferretgold_image.h"
-#include "ferretgold_large.h"
 
 #include <atomic>
 #include <cstddef>
@@ -610,29 +609,6 @@ class lease {
     ferretgold_cache *cache_;
     ferretgold_client *client_ = nullptr;
 };
-
-// ---- Large values, by the calls of ferretgold_large.h ------------------------------------------
-
-// Puts a value in; `inserted` gets what came of it, and may be null.
-inline ferretgold_status put_large(client &by, const ferretgold_key &key, const void *value,
-                                   std::size_t length, std::uint32_t charge,
-                                   ferretgold_priority priority = FERRETGOLD_LOW,
-                                   ferretgold_inserted *inserted = nullptr) noexcept {
-    return ferretgold_put_large(by.get(), &key, value, length, charge, priority, inserted);
-}
-
-// Copies the value under a key to a buffer: OK, MISS or TOO_SHORT.
-inline ferretgold_status get_large(client &by, const ferretgold_key &key, void *buffer,
-                                   std::size_t capacity, std::size_t *length,
-                                   bool useful = true) noexcept {
-    return ferretgold_get_large(by.get(), &key, buffer, capacity, useful, length);
-}
-
-// Erases the value under a key; `hidden` gets whether one was there, and may be null.
-inline ferretgold_status erase_large(client &by, const ferretgold_key &key,
-                                     std::uint32_t *hidden = nullptr) noexcept {
-    return ferretgold_erase_large(by.get(), &key, hidden);
-}
 
 } // namespace ferretgold
 

@@ -12,13 +12,6 @@
  *   or one made of a file's name, inode, size and times, that of its last status change among them: any
  *   program can set the others back.
  *
- * LARGE VALUES
- *   The pieces of ferretgold_large.h are saved and loaded as entries are. Their keys are made with the
- *   seed, and their lengths go by the room: under another seed no large value is found, and in slots of
- *   another room only those of one piece. What is found is the bytes of one insertion. Nothing finds or
- *   erases a value of another seed: once that seed is used again it is found, unless the clock took it.
- *   The format's version is also that of their keys and of what they begin with.
- *
  * THE FORMAT, version 1. All numbers have their lowest byte first.
  *   The file begins with 32 bytes:
  *        0  8  "FERRETG1"

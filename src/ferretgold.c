@@ -11,7 +11,6 @@
 #include "ferretgold_object.h"
 #include "ferretgold_raw.h"
 #include "closed.h"
-#include "large.h"
 #include "opening.h"
 
 #include <stdatomic.h>
@@ -48,7 +47,6 @@ struct ferretgold_cache {
     ferretgold_config config;
     ferretgold_client *client;
     ferretgold_back *back; /* of each client */
-    large_setup large;
     _Alignas(LINE) ferretgold_row row[];
 };
 
@@ -180,7 +178,6 @@ ferretgold_cache *cache_made(const ferretgold_config *config) {
     cache->config = *config;
     cache->client = (ferretgold_client *)(void *)&cache->row[rows];
     cache->back = (ferretgold_back *)(void *)&cache->client[config->clients];
-    cache->large = large_setup_of(config);
     return cache;
 }
 
@@ -451,14 +448,6 @@ ferretgold_status ferretgold_statistics(ferretgold_client *client, ferretgold_st
     }
     ferretgold_raw_stats(&client->session, stats);
     return ferretgold_leave(client, FERRETGOLD_OK);
-}
-
-const large_setup *large_setup_at(ferretgold_client *client) {
-    if (!ferretgold_enter(client, "a call of a large value")) {
-        return NULL;
-    }
-    ferretgold_quit(client);
-    return &client->cache->large;
 }
 
 /* ---- Texts ----------------------------------------------------------------------------------- */

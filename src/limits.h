@@ -4,7 +4,7 @@
 #define FERRETGOLD_LIMITS_H
 
 enum { FEWEST_SLOTS = 8, MOST_SLOTS = 65536, MOST_SHARDS = 64, MOST_CLIENTS = 1024 };
-/* Bytes of a value; bits of a client's number of serials. */
-enum { MOST_VALUE = 4096, SERIAL_BITS = 54 };
+/* Bytes of a value. */
+enum { MOST_VALUE = 4096 };
 
 #endif

@@ -5,7 +5,6 @@
 
 #include "ferretgold.hpp"
 #include "ferretgold_file.hpp"
-#include "ferretgold_large.h"
 
 #include <rocksdb/cache.h>
 
@@ -127,75 +126,6 @@ class ferret {
     };
 
   private:
-    ferretgold::cache cache_;
-};
-
-// The same by its calls for large values. A value is in as few pieces as its cache can have.
-class ferret_large {
-  public:
-    static std::string name() { return "ferretgold-large"; }
-
-    explicit ferret_large(const sizes &sizes) : cache_(config(sizes)) {}
-
-    class reader {
-      public:
-        reader(ferret_large &cache, const sizes &sizes)
-            : opened_(cache.cache_.open_client()), client_(opened_.get()),
-              size_(sizes.value_size), pieces_(pieces_of(sizes)) {}
-        reader(reader &&) = default;
-
-        bool read(const ferretgold_key &key, std::uint8_t *buffer) { return get(key, buffer); }
-        bool touch(const ferretgold_key &key, std::uint8_t *buffer) { return get(key, buffer); }
-
-        bool get(const ferretgold_key &key, std::uint8_t *buffer) {
-            return ferretgold_get_large(client_, &key, buffer, size_, true, nullptr) ==
-                   FERRETGOLD_OK;
-        }
-
-        void insert(const ferretgold_key &key, const std::uint8_t *value) {
-            (void)ferretgold_put_large(client_, &key, value, size_, pieces_, FERRETGOLD_LOW,
-                                       nullptr);
-        }
-
-        void pin(const ferretgold_key &, const std::uint8_t *) {
-            must(false, "holding a large value");
-        }
-
-      private:
-        ferretgold::client opened_;
-        ferretgold_client *client_;
-        std::uint32_t size_;
-        std::uint32_t pieces_;
-    };
-
-  private:
-    // Before its part of a value a piece has so many bytes, and its slot at least so many words.
-    static constexpr std::uint32_t head = 40;
-    static constexpr std::uint32_t fewest_words = 10;
-    static constexpr std::uint32_t most_slots = 1 << 16; // of a shard
-
-    static std::uint32_t pieces_of(const sizes &sizes) {
-        std::uint32_t most = most_bytes - head;
-        return (sizes.value_size + most - 1) / most;
-    }
-
-    // With room for a piece, and as many slots and charges as all pieces have.
-    static ferretgold_config config(const sizes &sizes) {
-        std::uint32_t pieces = pieces_of(sizes);
-        std::uint32_t each = (sizes.value_size + pieces - 1) / pieces;
-        ferretgold_config config = config_of(sizes);
-        while (config.slots < sizes.slots / sizes.shards * pieces) {
-            config.slots *= 2;
-        }
-        for (; config.slots > most_slots; config.slots /= 2) {
-            config.shards *= 2;
-        }
-        config.room = std::max((each + head + 7) / 8, fewest_words);
-        config.handles = 1;
-        config.capacity *= pieces;
-        return config;
-    }
-
     ferretgold::cache cache_;
 };
 

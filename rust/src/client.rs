@@ -144,53 +144,6 @@ impl Client<'_> {
         hidden
     }
 
-    /// Puts a value of up to 16 MiB in, in pieces and in place of what was there, as
-    /// `ferretgold_put_large` does.
-    ///
-    /// ```
-    /// # use ferretgold::{Cache, Config, Got, Inserted, Key, Priority};
-    /// # let cache = Cache::open(&Config::default()).unwrap();
-    /// # let client = cache.client().unwrap();
-    /// # let key = Key { w0: 7, w1: 1 };
-    /// let (value, mut buffer) = (vec![7; 100_000], vec![0; 200_000]);
-    /// let came = client.put_large(key, &value, 100_000, Priority::Low);
-    /// assert_eq!(came, Ok(Inserted::Placed));
-    /// assert_eq!(client.get_large(key, &mut buffer, true), Got::Value(100_000));
-    /// assert_eq!(buffer[..100_000], value);
-    /// assert!(client.erase_large(key));
-    /// ```
-    pub fn put_large(
-        &self,
-        key: Key,
-        value: &[u8],
-        charge: u32,
-        priority: Priority,
-    ) -> Result<Inserted, Refused> {
-        let (at, length, level) = (value.as_ptr().cast(), value.len(), priority as u32);
-        let mut came = 0;
-        judged(unsafe {
-            raw::ferretgold_put_large(self.raw(), &key, at, length, charge, level, &mut came)
-        })?;
-        Ok(came_of(came))
-    }
-
-    /// Copies the large value under a key to the front of the buffer. After a miss the buffer may have
-    /// any bytes.
-    pub fn get_large(&self, key: Key, buffer: &mut [u8], useful: bool) -> Got {
-        let (at, room, mut length) = (buffer.as_mut_ptr().cast(), buffer.len(), 0);
-        let status =
-            unsafe { raw::ferretgold_get_large(self.raw(), &key, at, room, useful, &mut length) };
-        got_of(status, length)
-    }
-
-    /// Erases the large value under a key, and says whether one was there.
-    pub fn erase_large(&self, key: Key) -> bool {
-        let mut hidden = 0;
-        let status = unsafe { raw::ferretgold_erase_large(self.raw(), &key, &mut hidden) };
-        debug_assert_eq!(status, 0);
-        hidden != 0
-    }
-
     /// What is charged, also for standalone entries and for what other clients have reserved.
     pub fn usage(&self) -> u64 {
         self.total(raw::ferretgold_usage)

@@ -1,4 +1,4 @@
-//! The functions of ferretgold.h, _closed.h, _image.h, _large.h, _object.h and _file.h, as C has them.
+//! The functions of ferretgold.h, _closed.h, _image.h, _object.h and _file.h, as C has them.
 //! tests/static/check.py compares the two.
 
 use std::ffi::c_void;
@@ -184,24 +184,6 @@ extern "C" {
         cache: *mut *mut Cache,
         left_out: *mut usize,
     ) -> u32;
-    pub fn ferretgold_put_large(
-        client: *mut Client,
-        key: *const Key,
-        value: *const c_void,
-        length: usize,
-        charge: u32,
-        priority: u32,
-        inserted: *mut u32,
-    ) -> u32;
-    pub fn ferretgold_get_large(
-        client: *mut Client,
-        key: *const Key,
-        buffer: *mut c_void,
-        capacity: usize,
-        useful: bool,
-        length: *mut usize,
-    ) -> u32;
-    pub fn ferretgold_erase_large(client: *mut Client, key: *const Key, hidden: *mut u32) -> u32;
     pub fn ferretgold_usage(client: *mut Client, usage: *mut u64) -> u32;
     pub fn ferretgold_pinned_usage(client: *mut Client, usage: *mut u64) -> u32;
     pub fn ferretgold_occupancy(client: *mut Client, occupancy: *mut u64) -> u32;

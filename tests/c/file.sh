@@ -1,9 +1,9 @@
 #!/usr/bin/env bash
 # Tests caches that go to files and come from them: rows, damage, what fails, mutated files; from
-# C++ and from Rust, also where streams fail and functions throw or panic; large values after warm
-# starts; C and C++ also under AddressSanitizer and UndefinedBehaviorSanitizer; and a script that
-# reads and writes the format by its description alone. It wants crates/hcc_c/out/libhcc_c.a, as `rt
-# lib` in crates/hcc_c makes it, and skips where there is no xxhash.h.
+# C++ and from Rust, also where streams fail and functions throw or panic; C and C++ also under
+# AddressSanitizer and UndefinedBehaviorSanitizer; and a script that reads and writes the format by
+# its description alone. It wants crates/hcc_c/out/libhcc_c.a, as `rt lib` in crates/hcc_c makes it,
+# and skips where there is no xxhash.h.
 # Usage: tests/c/file.sh [FILES]     of mutated ones in each program: 100,000 by default
 set -u
 cd "$(dirname "$0")/../.." || exit 2
@@ -14,9 +14,9 @@ files=${1:-100000}
 program=("$folder/file")
 wrap=-Wl,--wrap=malloc,--wrap=realloc,--wrap=aligned_alloc,--wrap=free
 
-# Builds a library of its own, with sanitizers if they are named: library SANITIZERS WORD..
+# Builds a library of its own, with sanitizers if they are named: library SANITIZERS
 library() {
-    make -s -C src OUT="$folder/lib" SANITIZE="$1" CFLAGS="-O2 -g ${*:2}" "$folder"/lib/libferretgold{,_file}.a
+    make -s -C src OUT="$folder/lib" SANITIZE="$1" "$folder"/lib/libferretgold{,_file}.a
 }
 
 # Builds a program with it: builds NAME WORD..
@@ -51,12 +51,6 @@ in_rust() {
     "$folder/in_rust" && { [[ ! -f $sanitizer ]] || LD_PRELOAD=$sanitizer "$folder/in_rust"; }
 }
 
-# Large values after warm starts; with a library in which pieces have few keys they meet all the
-# time.
-large_values() {
-    builds large_file cc -std=c11 "$@" tests/c/large_file.c tests/c/large_values.c && "$folder/large_file"
-}
-
 # All of it, with sanitizers if they are named.
 tries_all() {
     checks=(${1:+-fsanitize="$1" -fno-sanitize-recover=all})
@@ -68,10 +62,6 @@ tries_all() {
     tries "C++, $1" in_cpp
     tries "C++ without exceptions, $1" in_cpp -fno-exceptions -fno-rtti
     [[ $1 ]] || tries "Rust" in_rust
-    tries "large values, $1" large_values
-    rm -rf "$folder/lib"
-    tries "the library, of few keys, $1" library "$1" -DFERRETGOLD_FEW_KEYS=64
-    tries "large values, of few keys, $1" large_values -DFERRETGOLD_FEW_KEYS=64
     rm -rf "$folder/lib"
 }
 

@@ -1,7 +1,12 @@
 // ferretgold_leveldb.hpp by rows of calls, by keys of all lengths, where handles run out, by
-// deleters that call the cache, and by threads that replace, erase, hold and give back values.
+// deleters that call the cache, by threads that replace, erase, hold and give back values, and by a
+// database.
 // usage: leveldb_cache [OPERATIONS]    of eight threads: 1,000,000 by default
 #include "ferretgold_leveldb.hpp"
+
+#include <leveldb/db.h>
+#include <leveldb/env.h>
+#include <leveldb/helpers/memenv.h>
 
 #include <cstdio>
 #include <map>
@@ -409,6 +414,57 @@ void threads(long count, long operations) {
     std::printf("%ld threads: %ld operations, %ld values\n", count, operations, deleted.load());
 }
 
+// ---- A database --------------------------------------------------------------------------------
+
+constexpr int ROWS = 20000, READERS = 4;
+
+std::string content_of(int number) {
+    std::minstd_rand random(static_cast<unsigned>(number) + 1);
+    std::string content(100 + static_cast<std::size_t>(number) % 100, ' ');
+    for (char &it : content) {
+        it = static_cast<char>(random());
+    }
+    return content;
+}
+
+// Reads all in order, and then as many at random.
+void read_rows(leveldb::DB &from, unsigned seed) {
+    std::minstd_rand random(seed);
+    std::string value;
+    for (int n = 0; n < 2 * ROWS; n++) {
+        const int number = n < ROWS ? n : static_cast<int>(random() % ROWS);
+        const leveldb::Status status = from.Get(leveldb::ReadOptions(), key_of(number), &value);
+        EXPECT(status.ok() && value == content_of(number), true);
+    }
+}
+
+// Four threads read some 3 MB through a cache of a tenth of that, while all is compacted.
+void database() {
+    const std::unique_ptr<leveldb::Env> memory(leveldb::NewMemEnv(leveldb::Env::Default()));
+    const std::unique_ptr<Cache> cache(ferretgold::new_leveldb_cache(300000));
+    leveldb::Options options;
+    options.create_if_missing = true;
+    options.env = memory.get();
+    options.block_cache = cache.get();
+    options.write_buffer_size = 1 << 20;
+    leveldb::DB *opened = nullptr;
+    EXPECT(leveldb::DB::Open(options, "/database", &opened).ok(), true);
+    const std::unique_ptr<leveldb::DB> it(opened);
+    for (int number = 0; number < ROWS; number++) {
+        const leveldb::WriteOptions how;
+        EXPECT(it->Put(how, key_of(number), content_of(number)).ok(), true);
+    }
+    std::vector<std::thread> readers;
+    for (unsigned seed = 1; seed <= READERS; seed++) {
+        readers.emplace_back([&, seed] { read_rows(*it, seed); });
+    }
+    it->CompactRange(nullptr, nullptr);
+    for (std::thread &reader : readers) {
+        reader.join();
+    }
+    EXPECT(cache->TotalCharge() > 100000 && cache->TotalCharge() <= 300000, true);
+}
+
 } // namespace
 
 int main(int count, char **words) {
@@ -426,6 +482,7 @@ int main(int count, char **words) {
     threads(8, operations);
     threads(100, operations / 4);
     EXPECT(lives.load(), 0);
+    database();
     std::printf("leveldb: %ld faults\n", faults.load());
     return faults.load() != 0;
 }

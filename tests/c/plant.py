@@ -5,10 +5,9 @@ time: two arguments of a call are exchanged, two assigned values, two enumerator
 negated; an operator is another one, and what is added or subtracted is not; a statement is dropped, and
 each call that releases or closes. No call is inline here. What they don't see of src/ferretgold.c and of
 ferretgold_inline.h is tried again by threads that borrow clients, tests/c/pool.c, and in the checking
-library, by which tests/c/entered.c has to end as it should; and what they don't see of C files, by the
-tests of large values, tests/c/large.c. Bugs in src/file.c and ferretgold_file.hpp are those that
-tests/c/file.c and tests/c/file.cpp have to see; where there is no xxhash.h, they are skipped. What a
-compiler refuses is no bug that one could ship. Bugs that change nothing stand in tests/c/equivalents,
+library, by which tests/c/entered.c has to end as it should. Bugs in src/file.c and ferretgold_file.hpp
+are those that tests/c/file.c and tests/c/file.cpp have to see; where there is no xxhash.h, they are
+skipped. What a compiler refuses is no bug that one could ship. Bugs that change nothing stand in tests/c/equivalents,
 each with its reason; it fails too where one of them is seen, or isn't planted. So do those that threads
 see by chance, which may be seen.
 
@@ -28,22 +27,19 @@ from pathlib import Path
 
 TOP = Path(__file__).resolve().parent.parent.parent
 # What is compiled into the library.
-OBJECTS = ["src/ferretgold.c", "src/closed.c", "src/heap.c", "src/image.c", "src/sizes.c", "src/large.c"]
-SAVES = ["src/file.c", "include/ferretgold_file.hpp"]  # what is compiled only where there is xxhash.h
+OBJECTS = ["src/ferretgold.c", "src/closed.c", "src/heap.c", "src/image.c", "src/sizes.c"]
+SAVES = ["src/file.c", "include/ferretgold_file.hpp"]  # what is compiled only where there is xxhash.h, and no trace shows
 FILES = ["include/ferretgold.h", "include/ferretgold_inline.h", "include/ferretgold.hpp", *OBJECTS, *SAVES]
-APART = {"src/large.c", *SAVES}  # what no trace shows
 CALLS = {"include/ferretgold_inline.h", "src/ferretgold.c"}  # where the checking library differs
-HEADERS = ["include/ferretgold_raw.h", "include/ferretgold_closed.h", "include/ferretgold_large.h",
-           "include/ferretgold_object.h", "include/ferretgold_file.h", "include/ferretgold_image.h",
-           "src/closed.h", "src/heap.h", "src/large.h", "src/limits.h", "src/opening.h"]
+HEADERS = ["include/ferretgold_raw.h", "include/ferretgold_closed.h", "include/ferretgold_object.h",
+           "include/ferretgold_file.h", "include/ferretgold_image.h",
+           "src/closed.h", "src/heap.h", "src/limits.h", "src/opening.h"]
 CHANCE = "by chance: "
 PLAYS = ["tests/c/play.c", "tests/c/edges.c", "tests/c/closed.c", "tests/c/image.c"]
 CPP = ["tests/c/play.cpp", "tests/c/closed.cpp"]
 STREAMS = ["tests/c/file.cpp"]
-LARGE = [f"tests/c/large{it}.c" for it in ("", "_keys", "_meetings", "_threads", "_values")]
 PROVED = TOP / "crates/hcc_c/out/libhcc_c.a"
 WRAP = "-Wl,--wrap=malloc,--wrap=realloc,--wrap=aligned_alloc,--wrap=free"
-MEET = "-Wl," + ",".join(f"--wrap=ferretgold_raw_{it}" for it in ("get", "insert", "erase"))
 MET = "ferretgold: two threads use client 0 at once: ferretgold_usage and ferretgold_insert_pinned\n"
 TRACES = [TOP / "tests/program/calls", TOP / "tests/c/calls"]
 WARN = ["-Wall", "-Wextra", "-Wpedantic", "-Werror"]
@@ -307,8 +303,6 @@ class Trials:
         saving = ["tests/c/file.c", "src/file.c"] if files & set(SAVES) else []
         for file in (*PLAYS, "tests/c/heap.c", *OBJECTS, *saving):
             self.compiled(TOP, *WARN, "-c", TOP / file, "-o", self.object(file))
-        for few, file in itertools.product(("", "64"), LARGE):
-            self.compiled(TOP, "-O1", *self.keys(few), "-c", TOP / file, "-o", self.test(few, file))
 
     @staticmethod
     def compiled(top, *words):
@@ -317,13 +311,6 @@ class Trials:
 
     def object(self, file):
         return self.folder / (file.replace("/", "-") + ".o")
-
-    def test(self, few, file):
-        return self.folder / f"test{few}-{Path(file).stem}.o"
-
-    @staticmethod
-    def keys(few):
-        return [f"-DFERRETGOLD_FEW_KEYS={few}"] if few else []
 
     def built(self, here, bug):
         """How the program is compiled that is to see a bug: what the bug leaves as it is is compiled
@@ -336,7 +323,7 @@ class Trials:
                     *map(self.object, library), *self.libraries]
         if bug.file.endswith(".h"):
             plays = [TOP / it for it in PLAYS]
-        if bug.file in APART:
+        if bug.file in SAVES:
             return ["cc", "-std=c11", *WARN, f"-I{here}/include", "-c", here / bug.file, "-o", here / "apart.o"]
         checks = ["-DFERRETGOLD_CHECK"] if bug.checks else []
         library = [here / it if it == bug.file or bug.file.endswith(".h") else self.object(it) for it in OBJECTS]
@@ -344,11 +331,10 @@ class Trials:
 
     def tests_of(self, bug):
         """The tests that may see a bug, the quickest first."""
-        yield from [self.passes] * (bug.file not in APART)
-        yield from [self.meets] * (bug.file not in APART and bug.checks)
+        yield from [self.passes] * (bug.file not in SAVES)
+        yield from [self.meets] * (bug.file not in SAVES and bug.checks)
         yield from [self.saves] * (bug.file in SAVES)
         yield from [self.lends] * (bug.file in CALLS and not bug.checks)
-        yield from [self.holds] * (bug.file in ("src/ferretgold.c", "src/large.c"))
 
     def try_it(self, number, bug):
         """What becomes of a bug, or of a file as it is: refused by the compiler, seen, or not."""
@@ -393,28 +379,15 @@ class Trials:
 
     def meets(self, here, bug):
         """Whether two calls in one client end the program as they should."""
-        parts = TOP / "tests/c/entered.c", here / "src/ferretgold.c", self.object("src/large.c"), *self.least
+        parts = TOP / "tests/c/entered.c", here / "src/ferretgold.c", *self.least
         self.compiled(here, "-DFERRETGOLD_CHECK", "-o", here / "meets", *parts, "-Wl,--wrap=malloc")
         return self.ends(bug, 20, [here / "meets"], -signal.SIGABRT) == (True, MET)
 
     def lends(self, here, bug):
         """Whether threads that borrow clients find no fault."""
-        parts = TOP / "tests/c/pool.c", here / "src/ferretgold.c", self.object("src/large.c"), *self.least
+        parts = TOP / "tests/c/pool.c", here / "src/ferretgold.c", *self.least
         self.compiled(here, "-o", here / "pool", *parts)
         return self.ends(bug, 20, [here / "pool", "3", "400000"])[0]
-
-    def holds(self, here, bug):
-        """Whether large values are right, where pieces have few keys and where they have all: first the
-        rows, then a second of threads."""
-        checks = ["-DFERRETGOLD_CHECK"] if bug.checks else []
-        for seconds, few in itertools.product("01", ("64", "")):
-            program = here / f"large{few}"
-            if not program.exists():
-                parts = *(self.test(few, it) for it in LARGE), here / "src/ferretgold.c", here / "src/large.c"
-                self.compiled(here, *checks, *self.keys(few), "-o", program, *parts, *self.least, MEET)
-            if not self.ends(bug, 60, [program, seconds])[0]:
-                return False
-        return True
 
 
 def planted():

@@ -5,7 +5,6 @@
 #include "ferretgold.hpp"
 #include "heap.h"
 
-#include <algorithm>
 #include <cinttypes>
 #include <cstdio>
 #include <cstdlib>
@@ -422,33 +421,6 @@ void moved_caches() {
     EXPECT(it.get() == was && second.get() == nullptr);
 }
 
-// A large value, in three pieces.
-void large_values() {
-    ferretgold_config sizes = small();
-    sizes.room = 16;
-    cache it(sizes);
-    client one = it.open_client();
-    std::vector<char> value(200, 'v'), bytes(256);
-    std::size_t length = 0;
-    std::uint32_t hidden = 9;
-    std::uint64_t usage = 0;
-    ferretgold_inserted came = FERRETGOLD_STANDALONE;
-    value.back() = 'z';
-    EXPECT(put_large(one, KEY, value.data(), value.size(), 2) == 18);
-    EXPECT(put_large(one, KEY, value.data(), value.size(), 5, FERRETGOLD_HIGH, &came) == 0);
-    EXPECT(came == FERRETGOLD_PLACED);
-    EXPECT(get_large(one, KEY, bytes.data(), bytes.size(), &length) == 0 && length == 200);
-    EXPECT(std::equal(value.begin(), value.end(), bytes.begin()));
-    EXPECT(get_large(one, KEY, bytes.data(), 199, &length) == 20 && length == 200);
-    EXPECT(get_large(one, OTHER, bytes.data(), bytes.size(), &length) == 1);
-    EXPECT(ferretgold_usage(one.get(), &usage) == 0 && usage == 5);
-    EXPECT(erase_large(one, KEY, &hidden) == 0 && hidden == 1);
-    EXPECT(erase_large(one, KEY, &hidden) == 0 && hidden == 0);
-    EXPECT(ferretgold_usage(one.get(), &usage) == 0 && usage == 0);
-    client none;
-    EXPECT(erase_large(none, KEY) == 16);
-}
-
 // What is none is refused, by both forms of each call.
 void nobody() {
     ferretgold_status why{};
@@ -618,7 +590,6 @@ void edges() {
     told();
     no_memory();
     sizes();
-    large_values();
 }
 
 } // namespace

@@ -604,7 +604,27 @@ void read_some(rocksdb::DB &db, unsigned seed) {
     EXPECT(number, KEYS);
 }
 
-// Four threads read some 4 MB through a cache of a tenth of that, with index and filter blocks.
+// Four threads read while all is compacted again and again.
+void read_while_compacting(rocksdb::DB &db) {
+    std::atomic<int> reading{4};
+    std::vector<std::thread> readers;
+    for (unsigned n = 0; n < 4; n++) {
+        readers.emplace_back([&, n] {
+            read_some(db, n);
+            reading--;
+        });
+    }
+    rocksdb::CompactRangeOptions whole;
+    whole.bottommost_level_compaction = rocksdb::BottommostLevelCompaction::kForce;
+    do {
+        EXPECT(db.CompactRange(whole, nullptr, nullptr).ok(), true);
+    } while (reading > 0);
+    for (std::thread &it : readers) {
+        it.join();
+    }
+}
+
+// Some 4 MB are read through a cache of a tenth of that, with index and filter blocks.
 void database(const std::string &folder, bool is_strict) {
     rocksdb::BlockBasedTableOptions table;
     const options sizes(400 << 10, 4096, 0, is_strict, nullptr, rocksdb::kDontChargeCacheMetadata);
@@ -627,13 +647,7 @@ void database(const std::string &folder, bool is_strict) {
         EXPECT(db->Put(rocksdb::WriteOptions(), row_of(number), content_of(number)).ok(), true);
     }
     EXPECT(db->Flush(rocksdb::FlushOptions()).ok(), true);
-    std::vector<std::thread> readers;
-    for (unsigned n = 0; n < 4; n++) {
-        readers.emplace_back([&, n] { read_some(*db, n); });
-    }
-    for (std::thread &it : readers) {
-        it.join();
-    }
+    read_while_compacting(*db);
     EXPECT(cache->GetOccupancyCount() > 30 && cache->GetUsage() <= 400 << 10, true);
     db.reset();
     cache->EraseUnRefEntries();

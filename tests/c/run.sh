@@ -99,7 +99,7 @@ meets() {
         && ! "$folder/meets" > "$folder/met" 2>&1 \
         && [[ $(cat "$folder/met") == "$met" ]] || return
     ! cc "${words[@]}" > "$folder/met" 2>&1 && grep -q 'undefined.*ferretgold_raw_get' "$folder/met" || return
-    cc -DFERRETGOLD_CHECK "${words[@]}" && is_ended "$folder/meets" && is_ended "$folder/meets" large
+    cc -DFERRETGOLD_CHECK "${words[@]}" && is_ended "$folder/meets"
 }
 
 # A program in which two threads meet ends by the one line that says where.

@@ -11,7 +11,7 @@ from pathlib import Path
 
 PREFIX = Path(sys.argv[1])
 LIBRARY = PREFIX / "lib/libferretgold.so"
-HEADER = "".join((PREFIX / f"include/ferretgold{it}.h").read_text(encoding="utf-8") for it in ("", "_closed", "_image", "_inline", "_large", "_object"))
+HEADER = "".join((PREFIX / f"include/ferretgold{it}.h").read_text(encoding="utf-8") for it in ("", "_closed", "_image", "_inline", "_object"))
 MISS, TOO_SHORT, BAD_SIZE = 1, 20, 40
 
 

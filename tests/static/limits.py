@@ -11,7 +11,7 @@ from texts import read, tracked
 CONSTANTS = ("hcc_core/src/limits.rt", "hcc_rule/src/layout.rt", "hcc_cache/src/limits.rt")
 # What repeats them: constants of C and Rust, by their names there.
 REPEATED = {
-    "src/limits.h": {it: it for it in ("FEWEST_SLOTS", "MOST_SLOTS", "MOST_SHARDS", "MOST_CLIENTS", "MOST_VALUE", "SERIAL_BITS")},
+    "src/limits.h": {it: it for it in ("FEWEST_SLOTS", "MOST_SLOTS", "MOST_SHARDS", "MOST_CLIENTS", "MOST_VALUE")},
     "include/ferretgold.h": {"FERRETGOLD_MOST_SERIALS": "STAMPS_PER_CLIENT"},
     "rust/src/config.rs": {"MOST_SERIALS": "STAMPS_PER_CLIENT"},
 }
@@ -48,7 +48,6 @@ def limits_of_crates():
         for name, text in re.findall(r"^pub const (\w+): \w+ = ([\d_ <+*()]+);", read(f"crates/{file}"), re.M):
             found[name] = value_of(text)
     found["MOST_VALUE"] = 8 * found["MOST_ROOM"]
-    found["SERIAL_BITS"] = found["STAMPS_PER_CLIENT"].bit_length() - 1
     return found
 
 
