@@ -269,6 +269,22 @@ template <typename T> class object_cache {
         return hidden;
     }
 
+    std::uint64_t usage(ferretgold_status &why) noexcept {
+        std::uint64_t usage = 0;
+        why = ferretgold_object_usage(get(), &usage);
+        return usage;
+    }
+    std::uint64_t pinned_usage(ferretgold_status &why) noexcept {
+        std::uint64_t usage = 0;
+        why = ferretgold_object_pinned_usage(get(), &usage);
+        return usage;
+    }
+    std::uint64_t occupancy(ferretgold_status &why) noexcept {
+        std::uint64_t occupancy = 0;
+        why = ferretgold_object_occupancy(get(), &occupancy);
+        return occupancy;
+    }
+
     // Gives back what other threads let go, so that its entries can go.
     void collect() noexcept { (void)ferretgold_object_collect(get()); }
 
@@ -300,6 +316,15 @@ template <typename T> class object_cache {
     }
     std::uint32_t erase(const ferretgold_key &key) {
         return must([&](auto &why) { return erase(key, why); });
+    }
+    std::uint64_t usage() {
+        return must([&](auto &why) { return usage(why); });
+    }
+    std::uint64_t pinned_usage() {
+        return must([&](auto &why) { return pinned_usage(why); });
+    }
+    std::uint64_t occupancy() {
+        return must([&](auto &why) { return occupancy(why); });
     }
 #endif
 

@@ -142,6 +142,29 @@ impl<V> ObjectCache<V> {
         judged(status).map(|()| hidden)
     }
 
+    pub fn usage(&self) -> Result<u64, Refused> {
+        self.total(raw::ferretgold_object_usage)
+    }
+
+    pub fn pinned_usage(&self) -> Result<u64, Refused> {
+        self.total(raw::ferretgold_object_pinned_usage)
+    }
+
+    pub fn occupancy(&self) -> Result<u64, Refused> {
+        self.total(raw::ferretgold_object_occupancy)
+    }
+
+    fn total(
+        &self,
+        call: unsafe extern "C" fn(*mut raw::ObjectCache, *mut u64) -> u32,
+    ) -> Result<u64, Refused> {
+        let mut total = 0;
+        // SAFETY: *Open*.
+        let status = unsafe { call(self.at.as_ptr(), &mut total) };
+        panics::go_on();
+        judged(status).map(|()| total)
+    }
+
     pub fn collect(&self) {
         // SAFETY: *Open*.
         let _ = unsafe { raw::ferretgold_object_collect(self.at.as_ptr()) };

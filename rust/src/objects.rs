@@ -195,6 +195,22 @@ impl<V> Objects<V> {
         self.home().cache().erase(&(*key).into())
     }
 
+    /// What is charged for the entries of the table, and for those that stand alone. Refuses
+    /// [`Refused::NO_CLIENT`], as the next two do.
+    pub fn usage(&self) -> Result<u64, Refused> {
+        self.home().cache().usage()
+    }
+
+    /// What is charged for entries that are held. It looks at each slot.
+    pub fn pinned_usage(&self) -> Result<u64, Refused> {
+        self.home().cache().pinned_usage()
+    }
+
+    /// How many entries the table has.
+    pub fn occupancy(&self) -> Result<u64, Refused> {
+        self.home().cache().occupancy()
+    }
+
     /// Gives back what other threads than those that got it gave back, where its client is in no
     /// call, so that its entries can go.
     pub fn collect(&self) {

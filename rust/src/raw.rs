@@ -264,6 +264,9 @@ extern "C" {
         key: *const Key,
         hidden: *mut u32,
     ) -> u32;
+    pub fn ferretgold_object_usage(cache: *mut ObjectCache, usage: *mut u64) -> u32;
+    pub fn ferretgold_object_pinned_usage(cache: *mut ObjectCache, usage: *mut u64) -> u32;
+    pub fn ferretgold_object_occupancy(cache: *mut ObjectCache, occupancy: *mut u64) -> u32;
 }
 
 /// Callbacks that ferretgold_file.h takes.

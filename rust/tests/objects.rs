@@ -190,6 +190,16 @@ fn what_is_held_stays_when_it_was_erased() {
 }
 
 #[test]
+fn totals_are_of_what_is_there_and_held() {
+    let cache = Objects::<u8>::open(&small()).unwrap();
+    cache.insert(&KEY, 1, 7).unwrap();
+    cache.insert(&OTHER, 2, 5).unwrap();
+    let _held = cache.get(&OTHER).unwrap();
+    assert_eq!((cache.usage(), cache.occupancy()), (Ok(12), Ok(2)));
+    assert_eq!(cache.pinned_usage(), Ok(5));
+}
+
+#[test]
 fn objects_of_no_bytes_and_walks() {
     let cache = Objects::<()>::open(&small()).unwrap();
     assert_eq!(cache.insert(&KEY, (), 1).unwrap(), Inserted::Placed);

@@ -218,6 +218,18 @@ void temporaries() {
     EXPECT(lives.load(), 1);
 }
 
+// What is charged, what of it is held, and how many entries there are.
+void totals() {
+    blocks cache = opened(small_cache());
+    EXPECT(insert(cache, 1, 7), FERRETGOLD_PLACED);
+    const holding held = pinned_in(cache, 2, 5);
+    ferretgold_status why = FERRETGOLD_NULL;
+    EXPECT(cache.usage(why), 12);
+    EXPECT(cache.pinned_usage(why), 5);
+    EXPECT(cache.occupancy(why), 2);
+    EXPECT(why, FERRETGOLD_OK);
+}
+
 // A cache that is none or was closed; one that can't be opened; null in place of an object.
 void none() {
     ferretgold_status why = FERRETGOLD_OK;
@@ -535,6 +547,7 @@ int main(int count, char **words) {
         try_row(it, true);
     }
     temporaries();
+    totals();
     none();
     no_memory();
 #ifdef __cpp_exceptions
