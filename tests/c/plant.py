@@ -332,7 +332,7 @@ class Trials:
                     *map(self.object, library), *self.libraries]
         if bug.file.endswith(".h"):
             plays = [TOP / it for it in PLAYS]
-        if bug.file in SAVES:
+        if bug.file in APART:
             return ["cc", "-std=c11", *WARN, f"-I{here}/include", "-c", here / bug.file, "-o", here / "apart.o"]
         checks = ["-DFERRETGOLD_CHECK"] if bug.checks else []
         library = [here / it if it == bug.file or bug.file.endswith(".h") else self.object(it) for it in OBJECTS]
@@ -340,8 +340,8 @@ class Trials:
 
     def tests_of(self, bug):
         """The tests that may see a bug, the quickest first."""
-        yield from [self.passes] * (bug.file not in SAVES)
-        yield from [self.meets] * (bug.file not in SAVES and bug.checks)
+        yield from [self.passes] * (bug.file not in APART)
+        yield from [self.meets] * (bug.file not in APART and bug.checks)
         yield from [self.saves] * (bug.file in SAVES)
         yield from [self.hands] * (bug.file in HANDS)
         yield from [self.lends] * (bug.file in CALLS and not bug.checks)
