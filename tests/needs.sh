@@ -34,7 +34,8 @@ must=(cc c++ make rustc /usr/include/leveldb/db.h)
 packages=(gcc g++ make rustc libleveldb-dev)
 [[ -z $(lacking "${must[@]}") ]] || install "${packages[@]}"
 may "tests/page/replay.py will be skipped" "--no-install-recommends chromium" chromium
-may "a part of tests/engines.sh will be skipped" librocksdb-dev /usr/include/rocksdb/secondary_cache.h
+may "parts of tests/engines.sh and engines_own.sh will be skipped" librocksdb-dev \
+    /usr/include/rocksdb/version.h
 may "tests/engines_own.sh will be skipped" \
     "libgtest-dev libgmock-dev libbenchmark-dev libsnappy-dev curl" /usr/include/gtest/gtest.h \
     /usr/include/gmock/gmock.h /usr/include/benchmark/benchmark.h /usr/include/snappy.h curl

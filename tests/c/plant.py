@@ -8,9 +8,9 @@ ferretgold_inline.h is tried again by threads that borrow clients, tests/c/pool.
 library, by which tests/c/entered.c has to end as it should. Bugs in src/file.c and ferretgold_file.hpp
 are those that tests/c/file.c and tests/c/file.cpp have to see; where there is no xxhash.h, they are
 skipped. In the C of the header for objects a few functions have bugs, which the rows of tests/c/object.c
-have to see. What a compiler refuses is no bug that one could ship. Bugs that change nothing stand in tests/c/equivalents,
-each with its reason; it fails too where one of them is seen, or isn't planted. So do those that threads
-see by chance, which may be seen.
+have to see. What a compiler refuses is no bug that one could ship. Bugs that change nothing stand in
+tests/c/equivalents, each with its reason; it fails too where one of them is seen, or isn't planted. So
+do those that threads see by chance, which may be seen.
 
 Usage: tests/c/plant.py [--list] [--only WORD] [--jobs N]"""
 import argparse
