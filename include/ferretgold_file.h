@@ -1,7 +1,9 @@
 /*
  * ferretgold_file.h - a cache that is closed goes to a file, and one that is opened begins with what
- * a file has. It is no part of libferretgold, but of libferretgold_file.a, which is built where
- * xxhash.h is found and stands on the calls of ferretgold_closed.h and ferretgold_image.h.
+ * a file has; and what a cache of objects has goes to a file while it runs, and comes back by
+ * insertions. It is no part of libferretgold, but of libferretgold_file.a, which is built where
+ * xxhash.h is found and stands on the calls of ferretgold_closed.h, ferretgold_image.h and
+ * ferretgold_object.h.
  *
  * What is said there of objects, threads, refusals and what isn't checked holds here too.
  *
@@ -12,27 +14,37 @@
  *   or one made of a file's name, inode, size and times, that of its last status change among them: any
  *   program can set the others back.
  *
- * THE FORMAT, version 1. All numbers have their lowest byte first.
+ * THE FORMAT. All numbers have their lowest byte first.
  *   The file begins with 32 bytes:
  *        0  8  "FERRETG1"
- *        8  4  the version
+ *        8  4  the version: 1, or 2 where the entries are objects
  *       12  4  0
- *       16  8  how many entries follow
+ *       16  8  how many entries follow; in version 2, which says so behind them, 0
  *       24  8  XXH64 of the bytes before, by seed 0
- *   and each entry with 40, behind which stand the bytes of its value:
+ *   In version 1 each entry begins with 40, behind which stand the bytes of its value:
  *        0 16  its key: w0 and w1
  *       16  4  its charge, above 0
  *       20  4  its uses: its countdown
  *       24  4  its length, at most 4,096
  *       28  4  0
  *       32  8  XXH64 of the bytes before and of the value, by the entry's number as a seed, from 1 on
- *   Nothing stands behind the last one. Only entries that were visible are saved, shard by shard and
- *   slot by slot. The seed of the keys and the cache's sizes aren't: another configuration may load.
+ *   In version 2 with 40 others, behind which stand its bytes, and XXH64 of these by its number:
+ *        0 16  its key: w0 and w1
+ *       16  4  its charge, above 0
+ *       20  2  its kind
+ *       22  2  0
+ *       24  8  how many bytes it has
+ *       32  8  XXH64 of the bytes before, by its number
+ *   and behind the last entry stand 40 bytes of the same form: a key, a charge and a kind of 0, and
+ *   how many entries there are in place of the bytes. Nothing stands behind that, or behind the last
+ *   entry of version 1. Only entries that are visible are saved, shard by shard and slot by slot. The
+ *   seed of the keys and the cache's sizes aren't: another configuration may load.
  */
 #ifndef FERRETGOLD_FILE_H
 #define FERRETGOLD_FILE_H
 
 #include "ferretgold_closed.h"
+#include "ferretgold_object.h"
 
 #ifdef __cplusplus
 extern "C" {
@@ -47,7 +59,9 @@ typedef enum ferretgold_file_status {
     FERRETGOLD_FILE_KIND = 4,    /* it is no such file */
     FERRETGOLD_FILE_VERSION = 5, /* it has a version that this library doesn't know */
     FERRETGOLD_FILE_DAMAGED = 6, /* it is cut off, too long, or changed */
-    FERRETGOLD_FILE_REFUSED = 7, /* the configuration was refused, as by ferretgold_open, or memory */
+    FERRETGOLD_FILE_REFUSED = 7, /* the configuration was refused, as by ferretgold_open */
+    FERRETGOLD_FILE_MEMORY = 8,  /* memory was refused */
+    FERRETGOLD_FILE_BUSY = 9,    /* no client or no handle was to be had to walk over the cache */
 } ferretgold_file_status;
 
 /* Writes all these bytes, and returns whether it could. */
@@ -63,6 +77,8 @@ typedef struct ferretgold_loaded {
     uint64_t left;    /* that are in the cache */
     uint64_t lost;    /* the others: their shard had no room, or a slot has none for the value */
 } ferretgold_loaded;
+
+/* ---- Caches of bytes ------------------------------------------------------------------------- */
 
 /*
  * Writes what look-ups could find in a cache that was closed. Allocates nothing, and needs some 5 KiB
@@ -84,6 +100,59 @@ ferretgold_file_status ferretgold_save(ferretgold_closed *closed, ferretgold_wri
 ferretgold_file_status ferretgold_load(const ferretgold_config *config, ferretgold_read *read,
                                        void *context, bool keep_front, ferretgold_cache **cache,
                                        ferretgold_loaded *loaded);
+
+/* ---- Caches of objects ----------------------------------------------------------------------- */
+
+/* How many bytes an object has in a file; UINT64_MAX leaves it out. */
+typedef uint64_t ferretgold_object_size(void *context, const ferretgold_object_handle *handle);
+
+/* Copies `count` of its bytes, from `offset` on, and returns whether it could. They are asked for from
+ * the first to the last, each once. */
+typedef bool ferretgold_object_copy(void *context, const ferretgold_object_handle *handle,
+                                    uint64_t offset, void *bytes, size_t count);
+
+/* An entry of a file, whose bytes stay for the time of a call. */
+typedef struct ferretgold_object_saved {
+    ferretgold_key key;
+    const void *bytes;
+    size_t length;
+    uint32_t charge;
+    uint16_t kind;
+} ferretgold_object_saved;
+
+/* Makes the object of an entry and inserts it. Returns whether it was placed. */
+typedef bool ferretgold_object_make(void *context, const ferretgold_object_saved *saved);
+
+/*
+ * Writes the entries that a walk over a cache finds (ferretgold_object_pin_at), while other threads
+ * work with it: each is held for as long as its functions are called and its bytes are written. So
+ * the file has what was visible all the time, and is no picture of one moment: what was erased or
+ * evicted behind the walk is in it, too. Uses stay as they are. `size` and `copy` are both null where
+ * objects are bytes (ferretgold_object_insert_bytes): those of other kinds are left out then. `saved`
+ * gets how many entries were written; it may be null.
+ *
+ * WRITE: `write` or `copy` couldn't. BUSY: each of 64 tries was refused by NO_CLIENT, HANDLES_FULL or
+ * SPENT. What was written until then is no whole file. Allocates nothing, and needs some 5 KiB of
+ * stack. Costs a walk, and for each entry a release, and its functions' calls.
+ */
+ferretgold_file_status ferretgold_object_save(ferretgold_object_cache *cache,
+                                              ferretgold_object_size *size,
+                                              ferretgold_object_copy *copy, void *context,
+                                              ferretgold_write *write, void *to, uint64_t *saved);
+
+/*
+ * Calls `make` for each entry of such a file, once its bytes are read and its checksum is right. Of a
+ * file that is damaged it is called for what stands before the damage. `loaded` gets how many entries
+ * were read, and how many of them `make` placed, also after a refusal; it may be null.
+ *
+ * Allocates room for the bytes of the longest entry, which grows only as they are read: at most twice
+ * as much as the file has, or 64 KiB.
+ */
+ferretgold_file_status ferretgold_object_load(ferretgold_read *read, void *from,
+                                              ferretgold_object_make *make, void *context,
+                                              ferretgold_loaded *loaded);
+
+/* ---- Statuses -------------------------------------------------------------------------------- */
 
 /* A status as a sentence; "unknown" if it is none. */
 const char *ferretgold_file_status_text(ferretgold_file_status status);

@@ -124,7 +124,7 @@ template <typename Read, typename = is_read<Read>>
 cache load(const ferretgold_config &config, Read &&read, bool keep_front, ferretgold_loaded *loaded,
            ferretgold_file_status &why) {
     called<std::remove_reference_t<Read>> from(read);
-    why = FERRETGOLD_FILE_REFUSED;
+    why = FERRETGOLD_FILE_MEMORY;
     cache it(shared_cache::by([&](ferretgold_cache *&opened) {
         why = ferretgold_load(&config, from.read, &from, keep_front, &opened, loaded);
     }));

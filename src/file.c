@@ -1,54 +1,108 @@
-/* Caches and files, over ferretgold_closed.h and ferretgold_image.h. It is tested, not proved.
+/* Caches of bytes and files, over ferretgold_closed.h and ferretgold_image.h, with what files of
+ * objects share. It is tested, not proved.
  *
  * An entry's checksum has its number in it, so that no two entries can change places, and the file's
  * begin says how many there are: what isn't refused is what was saved, as far as 64 bits tell. */
-#include "ferretgold_file.h"
+#define _DEFAULT_SOURCE /* for htole64 */
+
 #include "ferretgold_image.h"
+#include "file.h"
 #include "limits.h"
 
 #define XXH_INLINE_ALL
 #include <xxhash.h>
 
+#include <endian.h>
+#include <stddef.h>
 #include <string.h>
 
-enum { BEGIN = 32, HEAD = 40, FILE_VERSION = 1, SUM = 8 };
+enum { FILE_VERSION = 1 };
 
 static const char KIND[8] = {'F', 'E', 'R', 'R', 'E', 'T', 'G', '1'};
 
-/* ---- Numbers as bytes, the lowest first ------------------------------------------------------ */
+/* How a file begins. Its numbers, and those of an entry, have their lowest byte first. */
+typedef struct begin {
+    char kind[sizeof KIND];
+    uint32_t version;
+    uint32_t zero;
+    uint64_t entries;
+    uint64_t sum;
+} begin;
 
-static void put(uint8_t *bytes, size_t count, uint64_t number) {
-    for (size_t at = 0; at < count; at++) {
-        bytes[at] = (uint8_t)(number >> 8 * at);
-    }
+/* An entry as it stands in a file. */
+typedef struct file_entry {
+    uint64_t w0, w1;
+    uint32_t charge;
+    uint32_t uses;
+    uint32_t length;
+    uint32_t zero;
+    uint64_t sum;
+    uint8_t value[MOST_VALUE];
+} file_entry;
+
+enum { HEAD = offsetof(file_entry, value) };
+
+_Static_assert(sizeof(begin) == 32 && HEAD == 40, "these are the format's");
+
+/* ---- What stands before the entries, and behind them ----------------------------------------- */
+
+static uint64_t begin_sum(const begin *it) {
+    return htole64(XXH64(it, offsetof(begin, sum), 0));
 }
 
-static uint64_t got(const uint8_t *bytes, size_t count) {
-    uint64_t number = 0;
-    for (size_t at = count; at > 0; at--) {
-        number = number << 8 | bytes[at - 1];
+bool file_begun(uint32_t version, uint64_t entries, ferretgold_write *write, void *context) {
+    begin it = {.version = htole32(version), .entries = htole64(entries)};
+    memcpy(it.kind, KIND, sizeof KIND);
+    it.sum = begin_sum(&it);
+    return write(context, &it, sizeof it);
+}
+
+ferretgold_file_status file_bytes(const file_source *from, void *bytes, size_t count) {
+    bool could = true;
+    const size_t read = count == 0 ? 0 : from->read(from->context, bytes, count, &could);
+    if (!could) {
+        return FERRETGOLD_FILE_READ;
     }
-    return number;
+    return read == count ? FERRETGOLD_FILE_OK : FERRETGOLD_FILE_DAMAGED;
+}
+
+ferretgold_file_status file_begin(const file_source *from, uint32_t version, uint64_t *entries) {
+    begin it = {.version = 0};
+    const ferretgold_file_status status = file_bytes(from, &it, sizeof it);
+    if (status == FERRETGOLD_FILE_READ) {
+        return status;
+    }
+    if (memcmp(it.kind, KIND, sizeof KIND) != 0) {
+        return FERRETGOLD_FILE_KIND;
+    }
+    if (status != FERRETGOLD_FILE_OK || it.sum != begin_sum(&it)) {
+        return FERRETGOLD_FILE_DAMAGED;
+    }
+    if (le32toh(it.version) != version) {
+        return FERRETGOLD_FILE_VERSION;
+    }
+    *entries = le64toh(it.entries);
+    return it.zero == 0 ? FERRETGOLD_FILE_OK : FERRETGOLD_FILE_DAMAGED;
+}
+
+ferretgold_file_status file_end(const file_source *from) {
+    uint8_t more = 0;
+    const ferretgold_file_status status = file_bytes(from, &more, 1);
+    if (status == FERRETGOLD_FILE_OK) {
+        return FERRETGOLD_FILE_DAMAGED;
+    }
+    return status == FERRETGOLD_FILE_DAMAGED ? FERRETGOLD_FILE_OK : status;
 }
 
 /* ---- Saving ---------------------------------------------------------------------------------- */
 
-/* An entry as it stands in a file. */
-typedef struct file_entry {
-    uint8_t bytes[HEAD + MOST_VALUE];
-    ferretgold_key key;
-    uint32_t charge;
-    uint32_t uses;
-    uint32_t length;
-} file_entry;
-
-/* The checksum of an entry's bytes, which has its number in it. */
-static uint64_t entry_sum(const file_entry *entry, uint64_t number) {
+/* The checksum of an entry with so many bytes, which has its number in it. */
+static uint64_t entry_sum(const file_entry *entry, size_t length, uint64_t number) {
     XXH64_state_t state;
     (void)XXH64_reset(&state, number);
-    (void)XXH64_update(&state, entry->bytes, HEAD - SUM);
-    (void)XXH64_update(&state, entry->bytes + HEAD, entry->length);
-    return XXH64_digest(&state);
+    (void)XXH64_update(&state, entry, offsetof(file_entry, sum));
+    (void)XXH64_update(&state, entry->value, length);
+    return htole64(XXH64_digest(&state));
 }
 
 /* Whether a slot has an entry that look-ups could find. */
@@ -69,30 +123,20 @@ static uint64_t count(ferretgold_closed *closed, const ferretgold_config *config
     return found;
 }
 
-static bool write_begin(uint64_t entries, ferretgold_write *write, void *context) {
-    uint8_t begin[BEGIN] = {0};
-    memcpy(begin, KIND, sizeof KIND);
-    put(begin + 8, 4, FILE_VERSION);
-    put(begin + 16, 8, entries);
-    put(begin + BEGIN - SUM, SUM, XXH64(begin, BEGIN - SUM, 0));
-    return write(context, begin, BEGIN);
-}
-
 /* Writes the entry of a slot, of which this much is known. */
 static bool write_entry(ferretgold_closed *closed, uint32_t shard, uint32_t slot,
                         const ferretgold_entry *entry, uint64_t number, ferretgold_write *write,
                         void *context) {
     file_entry it;
-    memset(it.bytes, 0, HEAD);
-    it.length = (uint32_t)entry->length;
-    put(it.bytes, 8, entry->key.w0);
-    put(it.bytes + 8, 8, entry->key.w1);
-    put(it.bytes + 16, 4, entry->charge);
-    put(it.bytes + 20, 4, entry->uses);
-    put(it.bytes + 24, 4, it.length);
-    (void)ferretgold_closed_value(closed, shard, slot, it.bytes + HEAD, MOST_VALUE, NULL);
-    put(it.bytes + HEAD - SUM, SUM, entry_sum(&it, number));
-    return write(context, it.bytes, HEAD + it.length);
+    it.w0 = htole64(entry->key.w0);
+    it.w1 = htole64(entry->key.w1);
+    it.charge = htole32(entry->charge);
+    it.uses = htole32(entry->uses);
+    it.length = htole32((uint32_t)entry->length);
+    it.zero = 0;
+    (void)ferretgold_closed_value(closed, shard, slot, it.value, MOST_VALUE, NULL);
+    it.sum = entry_sum(&it, entry->length, number);
+    return write(context, &it, HEAD + entry->length);
 }
 
 ferretgold_file_status ferretgold_save(ferretgold_closed *closed, ferretgold_write *write,
@@ -103,7 +147,7 @@ ferretgold_file_status ferretgold_save(ferretgold_closed *closed, ferretgold_wri
     if (write == NULL || ferretgold_closed_config(closed, &config) != FERRETGOLD_OK) {
         return FERRETGOLD_FILE_NULL;
     }
-    if (!write_begin(count(closed, &config), write, context)) {
+    if (!file_begun(FILE_VERSION, count(closed, &config), write, context)) {
         return FERRETGOLD_FILE_WRITE;
     }
     for (uint32_t shard = 0; shard < config.shards; shard++) {
@@ -119,83 +163,46 @@ ferretgold_file_status ferretgold_save(ferretgold_closed *closed, ferretgold_wri
 
 /* ---- Loading --------------------------------------------------------------------------------- */
 
-/* Where a file is read from. */
-typedef struct file_source {
-    ferretgold_read *read;
-    void *context;
-} file_source;
-
-/* Reads so many bytes, or says why not: fewer are damage. */
-static ferretgold_file_status read_all(const file_source *from, void *bytes, size_t count) {
-    bool could = true;
-    const size_t read = count == 0 ? 0 : from->read(from->context, bytes, count, &could);
-    if (!could) {
-        return FERRETGOLD_FILE_READ;
-    }
-    return read == count ? FERRETGOLD_FILE_OK : FERRETGOLD_FILE_DAMAGED;
-}
-
-static ferretgold_file_status read_begin(const file_source *from, uint64_t *entries) {
-    uint8_t begin[BEGIN] = {0};
-    const ferretgold_file_status status = read_all(from, begin, BEGIN);
-    if (status == FERRETGOLD_FILE_READ) {
-        return status;
-    }
-    if (memcmp(begin, KIND, sizeof KIND) != 0) {
-        return FERRETGOLD_FILE_KIND;
-    }
-    if (status != FERRETGOLD_FILE_OK || got(begin + BEGIN - SUM, SUM) != XXH64(begin, BEGIN - SUM, 0)) {
-        return FERRETGOLD_FILE_DAMAGED;
-    }
-    *entries = got(begin + 16, 8);
-    return got(begin + 8, 4) == FILE_VERSION ? FERRETGOLD_FILE_OK : FERRETGOLD_FILE_VERSION;
-}
-
-static ferretgold_file_status read_entry(const file_source *from, uint64_t number, file_entry *it) {
-    ferretgold_file_status status = read_all(from, it->bytes, HEAD);
+/* Reads an entry, and how long it is. */
+static ferretgold_file_status read_entry(const file_source *from, uint64_t number, file_entry *it,
+                                         size_t *length) {
+    ferretgold_file_status status = file_bytes(from, it, HEAD);
     if (status != FERRETGOLD_FILE_OK) {
         return status;
     }
-    it->key = (ferretgold_key){got(it->bytes, 8), got(it->bytes + 8, 8)};
-    it->charge = (uint32_t)got(it->bytes + 16, 4);
-    it->uses = (uint32_t)got(it->bytes + 20, 4);
-    it->length = (uint32_t)got(it->bytes + 24, 4);
-    if (it->length > MOST_VALUE || it->charge == 0) {
+    *length = le32toh(it->length);
+    if (*length > MOST_VALUE || it->charge == 0 || it->zero != 0) {
         return FERRETGOLD_FILE_DAMAGED;
     }
-    status = read_all(from, it->bytes + HEAD, it->length);
-    if (status == FERRETGOLD_FILE_OK
-        && got(it->bytes + HEAD - SUM, SUM) != entry_sum(it, number)) {
+    status = file_bytes(from, it->value, *length);
+    if (status == FERRETGOLD_FILE_OK && it->sum != entry_sum(it, *length, number)) {
         return FERRETGOLD_FILE_DAMAGED;
     }
     return status;
 }
 
-/* Whether the file ends here. */
-static ferretgold_file_status read_end(const file_source *from) {
-    uint8_t more = 0;
-    const ferretgold_file_status status = read_all(from, &more, 1);
-    if (status == FERRETGOLD_FILE_OK) {
-        return FERRETGOLD_FILE_DAMAGED;
-    }
-    return status == FERRETGOLD_FILE_DAMAGED ? FERRETGOLD_FILE_OK : status;
+/* Adds an entry to those with which a cache is to begin. */
+static ferretgold_status add(ferretgold_image *image, const file_entry *it, size_t length) {
+    const ferretgold_key key = {le64toh(it->w0), le64toh(it->w1)};
+    return ferretgold_image_add(image, &key, it->value, length, le32toh(it->charge),
+                                le32toh(it->uses));
 }
 
 /* Lists a file's entries, as far as they can be read: how many `*read` says. */
 static ferretgold_file_status read_entries(const file_source *from, uint64_t entries,
                                            ferretgold_image *image, uint64_t *read) {
     file_entry it;
+    size_t length = 0;
     for (*read = 0; *read < entries; ++*read) {
-        const ferretgold_file_status status = read_entry(from, *read + 1, &it);
+        const ferretgold_file_status status = read_entry(from, *read + 1, &it, &length);
         if (status != FERRETGOLD_FILE_OK) {
             return status;
         }
-        if (ferretgold_image_add(image, &it.key, it.bytes + HEAD, it.length, it.charge, it.uses)
-            != FERRETGOLD_OK) {
-            return FERRETGOLD_FILE_REFUSED;
+        if (add(image, &it, length) != FERRETGOLD_OK) {
+            return FERRETGOLD_FILE_MEMORY;
         }
     }
-    return read_end(from);
+    return file_end(from);
 }
 
 /* Whether a cache comes with this status. */
@@ -214,13 +221,15 @@ ferretgold_file_status ferretgold_load(const ferretgold_config *config, ferretgo
     if (config == NULL || read == NULL || cache == NULL) {
         return FERRETGOLD_FILE_NULL;
     }
-    ferretgold_file_status status = read_begin(&from, &entries);
+    ferretgold_file_status status = file_begin(&from, FILE_VERSION, &entries);
     if (!is_taken(status, keep_front)) {
         return status;
     }
-    if (ferretgold_config_check(config) != FERRETGOLD_OK
-        || ferretgold_image_open(&image) != FERRETGOLD_OK) {
+    if (ferretgold_config_check(config) != FERRETGOLD_OK) {
         return FERRETGOLD_FILE_REFUSED;
+    }
+    if (ferretgold_image_open(&image) != FERRETGOLD_OK) {
+        return FERRETGOLD_FILE_MEMORY;
     }
     if (status == FERRETGOLD_FILE_OK) {
         status = read_entries(&from, entries, image, &it.entries);
@@ -230,7 +239,7 @@ ferretgold_file_status ferretgold_load(const ferretgold_config *config, ferretgo
         return status;
     }
     if (ferretgold_reopen(config, image, cache, &left_out) != FERRETGOLD_OK) {
-        return FERRETGOLD_FILE_REFUSED;
+        return FERRETGOLD_FILE_MEMORY;
     }
     it.lost = left_out;
     it.left = it.entries - it.lost;
@@ -251,7 +260,9 @@ const char *ferretgold_file_status_text(ferretgold_file_status status) {
     case FERRETGOLD_FILE_KIND: return "it is no file of a cache";
     case FERRETGOLD_FILE_VERSION: return "the file has a version that the library doesn't know";
     case FERRETGOLD_FILE_DAMAGED: return "the file is cut off, too long, or changed";
-    case FERRETGOLD_FILE_REFUSED: return "the configuration was refused, or memory";
+    case FERRETGOLD_FILE_REFUSED: return "the configuration was refused";
+    case FERRETGOLD_FILE_MEMORY: return "memory was refused";
+    case FERRETGOLD_FILE_BUSY: return "no client or no handle was to be had";
     }
     return "unknown";
 }

@@ -24,8 +24,10 @@ pub enum FileError {
     Version,
     /// The file is cut off, too long, or changed.
     Damaged,
-    /// The configuration was refused, or memory.
+    /// The configuration was refused.
     Refused(Refused),
+    /// Memory was refused.
+    Memory,
 }
 
 /// What came of loading a file.
@@ -110,7 +112,7 @@ fn load<R: Read + ?Sized>(
     match NonNull::new(at) {
         Some(at) => Ok((Cache { at }, loaded, status == OK)),
         None => {
-            let refused = config.check().err().unwrap_or(Refused::OUT_OF_MEMORY);
+            let refused = config.check().err().unwrap_or(Refused::NULL);
             Err(error_of(status, failed, refused))
         }
     }
@@ -203,8 +205,9 @@ const KIND: u32 = 4;
 const VERSION: u32 = 5;
 const DAMAGED: u32 = 6;
 const REFUSED: u32 = 7;
+const MEMORY: u32 = 8;
 
-/// What a status says, with how a writer or a reader failed, or why no cache could be opened.
+/// What a status says, with how a writer or a reader failed, or why the configuration was refused.
 fn error_of(status: u32, failed: Option<io::Error>, refused: Refused) -> FileError {
     let failed = failed.unwrap_or_else(|| ErrorKind::Other.into());
     match status {
@@ -213,6 +216,7 @@ fn error_of(status: u32, failed: Option<io::Error>, refused: Refused) -> FileErr
         KIND => FileError::Kind,
         VERSION => FileError::Version,
         DAMAGED => FileError::Damaged,
+        MEMORY => FileError::Memory,
         _ => FileError::Refused(refused),
     }
 }
@@ -226,6 +230,7 @@ impl fmt::Display for FileError {
             FileError::Version => VERSION,
             FileError::Damaged => DAMAGED,
             FileError::Refused(_) => REFUSED,
+            FileError::Memory => MEMORY,
         };
         let text = unsafe { CStr::from_ptr(raw::ferretgold_file_status_text(status)) };
         out.write_str(text.to_str().unwrap_or("unknown"))

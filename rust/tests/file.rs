@@ -141,7 +141,7 @@ fn refusals_have_a_name_a_text_and_a_cause() {
     };
     let why = Cache::load(&bad, &mut &saved()[..]).unwrap_err();
     assert!(matches!(why, FileError::Refused(Refused::BAD_SLOTS)));
-    assert_eq!(why.to_string(), "the configuration was refused, or memory");
+    assert_eq!(why.to_string(), "the configuration was refused");
     assert_eq!(
         why.source().unwrap().to_string(),
         Refused::BAD_SLOTS.to_string()

@@ -337,6 +337,7 @@ static void otherwise_sealed(const image *file) {
         {8, 4, 1, FERRETGOLD_FILE_DAMAGED, ENTRIES - 1},
         {8, 4, 2, FERRETGOLD_FILE_VERSION, 0},
         {8, 4, 0x01000001, FERRETGOLD_FILE_VERSION, 0},
+        {12, 4, 1, FERRETGOLD_FILE_DAMAGED, 0},
         {16, 8, 0, FERRETGOLD_FILE_DAMAGED, 0},
         {16, 8, ENTRIES - 2, FERRETGOLD_FILE_DAMAGED, ENTRIES - 2},
         {BEGIN + 16, 4, 0, FERRETGOLD_FILE_DAMAGED, 0},
@@ -344,6 +345,7 @@ static void otherwise_sealed(const image *file) {
         {BEGIN + 24, 4, MOST_VALUE + 1, FERRETGOLD_FILE_DAMAGED, 0},
         {BEGIN + 24, 4, 3 * MOST_VALUE, FERRETGOLD_FILE_DAMAGED, 0},
         {BEGIN + 24, 4, UINT32_MAX, FERRETGOLD_FILE_DAMAGED, 0},
+        {BEGIN + 28, 4, 1, FERRETGOLD_FILE_DAMAGED, 0},
         {16, 8, UINT64_MAX, FERRETGOLD_FILE_DAMAGED, ENTRIES - 1},
     };
     for (size_t row = 0; row < sizeof rows / sizeof *rows; row++) {
@@ -411,7 +413,7 @@ static void without_memory(image *file, const ferretgold_config *config) {
     for (size_t met = 0; cache == NULL && met < ENOUGH; met++) {
         heap_left = met;
         const ferretgold_file_status status = load(file, config, met % 2 == 0, &cache, NULL);
-        EXPECT(status, cache == NULL ? FERRETGOLD_FILE_REFUSED : FERRETGOLD_FILE_OK);
+        EXPECT(status, cache == NULL ? FERRETGOLD_FILE_MEMORY : FERRETGOLD_FILE_OK);
         EXPECT(cache != NULL || heap_blocks == blocks, true);
     }
     heap_left = SIZE_MAX;
@@ -439,8 +441,8 @@ static void texts(void) {
     static const char *const all[] = {
         "ok", "a pointer is null", "writing failed", "reading failed", "it is no file of a cache",
         "the file has a version that the library doesn't know",
-        "the file is cut off, too long, or changed", "the configuration was refused, or memory",
-        "unknown",
+        "the file is cut off, too long, or changed", "the configuration was refused",
+        "memory was refused", "no client or no handle was to be had", "unknown",
     };
     for (size_t status = 0; status < sizeof all / sizeof *all; status++) {
         EXPECT(strcmp(ferretgold_file_status_text((ferretgold_file_status)status), all[status]), 0);

@@ -335,7 +335,7 @@ void without_memory() {
     refuses_new = true;
     const cache none = ferretgold::load(small(9), file, true, nullptr, why);
     refuses_new = false;
-    EXPECT(none.get() == nullptr && why == FERRETGOLD_FILE_REFUSED && file.at == 0);
+    EXPECT(none.get() == nullptr && why == FERRETGOLD_FILE_MEMORY && file.at == 0);
 }
 
 void exceptions() {

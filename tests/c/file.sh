@@ -1,6 +1,6 @@
 #!/usr/bin/env bash
-# Tests caches that go to files and come from them: rows, damage, what fails, mutated files; from
-# C++ and from Rust, also where streams fail and functions throw or panic; C and C++ also under
+# Tests caches that go to files and come from them, of bytes and of objects: rows, damage, what fails,
+# mutated files; from C++ and from Rust, also where streams fail and functions throw or panic; C and C++ also under
 # AddressSanitizer and UndefinedBehaviorSanitizer; and a script that reads and writes the format by
 # its description alone. It wants crates/hcc_c/out/libhcc_c.a, as `rt lib` in crates/hcc_c makes it,
 # and skips where there is no xxhash.h.
@@ -31,7 +31,14 @@ is_as_described() {
     [[ $(wc -l < "$folder/read") == 19 ]] && tests/c/file_format.py write "$folder/written" < "$folder/read" || return
     cmp "$folder/saved" "$folder/written" && "${program[@]}" load "$folder/written" | sort > "$folder/loaded" || return
     sort "$folder/read" | cmp - "$folder/loaded" || return
-    tests/c/file_format.py write "$folder/newer" 2 < "$folder/read" && [[ $("${program[@]}" load "$folder/newer") == "refused: 5" ]]
+    tests/c/file_format.py write "$folder/newer" 3 < "$folder/read" && [[ $("${program[@]}" load "$folder/newer") == "refused: 5" ]]
+}
+
+# So it is with objects.
+is_as_described_of_objects() {
+    "$folder/objects" save "$folder/saved" && tests/c/file_format.py read "$folder/saved" > "$folder/read" || return
+    [[ $(wc -l < "$folder/read") == 11 ]] && tests/c/file_format.py write "$folder/written" 2 < "$folder/read" || return
+    cmp "$folder/saved" "$folder/written" && "$folder/objects" load "$folder/written" | cmp - "$folder/read"
 }
 
 in_cpp() {
@@ -56,9 +63,12 @@ tries_all() {
     checks=(${1:+-fsanitize="$1" -fno-sanitize-recover=all})
     tries "the library, $1" library "$1"
     tries "building, $1" builds file cc -std=c11 tests/c/file.c tests/c/heap.c "$wrap"
+    tries "building for objects, $1" builds objects cc -std=c11 tests/c/object_file.c tests/c/heap.c "$wrap"
     tries "rows, $1" "${program[@]}" rows
+    tries "rows of objects, $1" "$folder/objects" rows
     tries "mutated files, $1" "${program[@]}" fuzz "$files" 1
     tries "the format, $1" is_as_described
+    tries "the format of objects, $1" is_as_described_of_objects
     tries "C++, $1" in_cpp
     tries "C++ without exceptions, $1" in_cpp -fno-exceptions -fno-rtti
     [[ $1 ]] || tries "Rust" in_rust

@@ -3,8 +3,10 @@
 include/ferretgold_file.h alone; checksums are those of xxHash's own library.
 
 Usage: file-format read FILE     prints its entries, a line each: KEY KEY CHARGE USES VALUE, as
-                                 numbers and hexadecimal bytes; fails where the file isn't well
-       file-format write FILE [VERSION]   writes the entries of such lines, read from standard input"""
+                                 numbers and hexadecimal bytes, with the kind for the uses where they
+                                 are objects; fails where the file isn't well
+       file-format write FILE [VERSION]   writes the entries of such lines, read from standard input;
+                                 objects where the version is 2"""
 import ctypes
 import struct
 import sys
@@ -12,7 +14,8 @@ import sys
 SUMS = ctypes.CDLL("libxxhash.so")
 SUMS.XXH64.argtypes = [ctypes.c_char_p, ctypes.c_size_t, ctypes.c_uint64]
 SUMS.XXH64.restype = ctypes.c_uint64
-BEGIN, HEAD = struct.Struct("<8sIIQ"), struct.Struct("<QQIIII")
+BEGIN, HEAD, OBJECT = (struct.Struct(it) for it in ("<8sIIQ", "<QQIIII", "<QQIHHQ"))
+OBJECTS = 2
 
 
 def xxh64(data, seed):
@@ -29,12 +32,8 @@ def summed(data, at, seed, rest=b""):
     return struct.unpack_from("<Q", data, at)[0] == xxh64(data[:at] + rest, seed)
 
 
-def read(path):
-    with open(path, "rb") as it:
-        data = it.read()
-    kind, version, zero, entries = BEGIN.unpack_from(data)
-    must((kind, version, zero) == (b"FERRETG1", 1, 0) and summed(data[:32], 24, 0), "no such file")
-    data = data[32:]
+def read_bytes(data, entries):
+    """Prints so many entries of bytes; what stands behind them."""
     for number in range(1, entries + 1):
         w0, w1, charge, uses, length, zero = HEAD.unpack_from(data)
         value = data[40 : 40 + length]
@@ -42,18 +41,58 @@ def read(path):
         must(summed(data[:40], 32, number, value), f"entry {number} was changed")
         print(w0, w1, charge, uses, value.hex())
         data = data[40 + length :]
-    must(not data, "something stands behind the last entry")
+    return data
+
+
+def read_objects(data, entries):
+    """Prints all objects, of which the file's begin doesn't say how many there are; what stands behind
+    their end."""
+    while True:
+        number = entries + 1
+        w0, w1, charge, kind, zero, length = OBJECT.unpack_from(data)
+        must(zero == 0 and summed(data[:40], 32, number), f"the head of entry {number} was changed")
+        if charge == 0:
+            must((w0, w1, kind, length) == (0, 0, 0, entries), "the end isn't well")
+            return data[40:]
+        value = data[40 : 40 + length]
+        must(len(value) == length and summed(data[40 : 48 + length], length, number), f"entry {number} was changed")
+        print(w0, w1, charge, kind, value.hex())
+        data, entries = data[48 + length :], number
+
+
+def read(path):
+    with open(path, "rb") as it:
+        data = it.read()
+    kind, version, zero, entries = BEGIN.unpack_from(data)
+    must(kind == b"FERRETG1" and version in (1, OBJECTS) and zero == 0, "no such file")
+    must(summed(data[:32], 24, 0), "the begin was changed")
+    rest = (read_objects if version == OBJECTS else read_bytes)(data[32:], entries)
+    must(not rest, "something stands behind the last entry")
+
+
+def written(number, words, version):
+    """An entry as it stands in a file."""
+    w0, w1, charge, uses, length = *map(int, words[:4]), len(words[4]) // 2
+    value = bytes.fromhex(words[4])
+    if version == OBJECTS:
+        return ended(OBJECT.pack(w0, w1, charge, uses, 0, length), number) + ended(value, number)
+    head = HEAD.pack(w0, w1, charge, uses, length, 0)
+    return head + struct.pack("<Q", xxh64(head + value, number)) + value
+
+
+def ended(data, number):
+    """Bytes with their checksum behind them."""
+    return data + struct.pack("<Q", xxh64(data, number))
 
 
 def write(path, version):
     lines = [line.rstrip("\n").split(" ") for line in sys.stdin]
-    begin = BEGIN.pack(b"FERRETG1", version, 0, len(lines))
     with open(path, "wb") as to:
-        to.write(begin + struct.pack("<Q", xxh64(begin, 0)))
-        for number, (w0, w1, charge, uses, text) in enumerate(lines, 1):
-            value = bytes.fromhex(text)
-            head = HEAD.pack(int(w0), int(w1), int(charge), int(uses), len(value), 0)
-            to.write(head + struct.pack("<Q", xxh64(head + value, number)) + value)
+        to.write(ended(BEGIN.pack(b"FERRETG1", version, 0, 0 if version == OBJECTS else len(lines)), 0))
+        for number, words in enumerate(lines, 1):
+            to.write(written(number, words, version))
+        if version == OBJECTS:
+            to.write(ended(OBJECT.pack(0, 0, 0, 0, 0, len(lines)), len(lines) + 1))
 
 
 if len(sys.argv) == 3 and sys.argv[1] == "read":

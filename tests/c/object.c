@@ -1,8 +1,9 @@
 /* The calls of ferretgold_object.h on one thread: answers and refusals, whose the object is after
  * each, when deleters run and what they may do, and the memory of a cache. tests/c/object_threads.c
- * has what several threads do, object_bytes.c has bytes. Linked with heap.c. Usage: object [OPERATIONS]    of eight threads:
- * 1,000,000 at most and by default
- *                            object owned           ends by the checking library's line */
+ * has what several threads do, object_bytes.c has bytes. Linked with heap.c.
+ * Usage: object [OPERATIONS]          of eight threads: 1,000,000 at most and by default
+ *        object threads OPERATIONS    these alone
+ *        object owned                 ends by the checking library's line */
 #include "object_test.h"
 
 #include <stdlib.h>
@@ -592,9 +593,12 @@ int main(int count, char **words) {
         owned();
         return 1;
     }
-    object_rows();
-    object_bytes();
-    object_threads(count > 1 ? strtoul(words[1], NULL, 10) : 1000000);
+    const bool rows = count < 3;
+    if (rows) {
+        object_rows();
+        object_bytes();
+    }
+    object_threads(count > 1 ? strtoul(words[count - 1], NULL, 10) : 1000000);
     printf("object: %lu faults\n", atomic_load(&object_faults));
     return atomic_load(&object_faults) != 0;
 }

@@ -321,11 +321,13 @@ static void coming_and_going(void) {
 /* Where an object is: the caller's before it is inserted, and again where it isn't placed. */
 enum { OWN, INSERTED, BACK, CANARY = 0x5a17 };
 
+/* Relaxed, or plain: so a sanitizer finds whether the cache alone keeps who deletes one from who holds
+ * it. */
 typedef struct object {
     atomic_ushort held;
-    atomic_ushort canary; /* with the key, while it is inserted */
-    atomic_ushort key;
     atomic_uchar state;
+    uint16_t key;
+    uint16_t canary; /* of the key, while it is inserted */
 } object;
 
 typedef struct worker {
@@ -351,15 +353,24 @@ static uint64_t drawn(worker *it, uint64_t below) {
     return (it->state >> 20) % below;
 }
 
+static unsigned state_of(const object *one) {
+    return atomic_load_explicit(&one->state, memory_order_relaxed);
+}
+
+/* An object goes from one state to another: how many faults that is. */
+static unsigned long goes(object *one, unsigned char from, unsigned char to) {
+    return atomic_exchange_explicit(&one->state, to, memory_order_relaxed) != from;
+}
+
 static bool is_as_inserted(const object *one, const ferretgold_key *key, uint16_t kind) {
-    const uint16_t its = atomic_load(&one->key);
-    return atomic_load(&one->state) == INSERTED && atomic_load(&one->canary) == (CANARY ^ its)
-           && key->w0 == its && key->w1 == 5 && kind == (uint16_t)(3 * its);
+    const uint16_t its = one->key;
+    return state_of(one) == INSERTED && one->canary == (CANARY ^ its) && key->w0 == its
+           && key->w1 == 5 && kind == (uint16_t)(3 * its);
 }
 
 static void keep(worker *it, const ferretgold_object_handle *handle) {
     object *one = handle->object;
-    atomic_fetch_add(&one->held, 1);
+    atomic_fetch_add_explicit(&one->held, 1, memory_order_relaxed);
     it->wrong += !is_as_inserted(one, &handle->key, handle->kind);
     it->wrong += handle->charge != 1 + handle->key.w0 % 8;
     it->handles[it->holds] = handle;
@@ -369,7 +380,7 @@ static void keep(worker *it, const ferretgold_object_handle *handle) {
 static void give_back(worker *it, const ferretgold_object_handle *handle) {
     object *one = handle->object;
     it->wrong += !is_as_inserted(one, &handle->key, handle->kind);
-    it->wrong += atomic_fetch_sub(&one->held, 1) == 0;
+    it->wrong += atomic_fetch_sub_explicit(&one->held, 1, memory_order_relaxed) == 0;
     it->wrong += ferretgold_object_release(it->cache, handle, drawn(it, 2) == 0, drawn(it, 4) == 0,
                                            NULL) != FERRETGOLD_OK;
 }
@@ -406,15 +417,15 @@ static bool insert_next(worker *it) {
     const uint16_t kind = (uint16_t)(3 * key.w0);
     const ferretgold_object_handle *handle = NULL;
     ferretgold_inserted inserted = FERRETGOLD_DROPPED;
-    atomic_store(&one->key, (uint16_t)key.w0);
-    atomic_store(&one->canary, (uint16_t)(CANARY ^ key.w0));
-    atomic_store(&one->state, INSERTED);
+    one->key = (uint16_t)key.w0;
+    one->canary = (uint16_t)(CANARY ^ key.w0);
+    it->wrong += goes(one, OWN, INSERTED);
     const ferretgold_status status =
         pinned ? ferretgold_object_insert_pinned(it->cache, &key, one, kind, charge, priority,
                                                  &inserted, &handle)
                : ferretgold_object_insert(it->cache, &key, one, kind, charge, priority, &inserted);
     if (status != FERRETGOLD_OK || inserted == FERRETGOLD_DROPPED) {
-        it->wrong += atomic_exchange(&one->state, OWN) != INSERTED;
+        it->wrong += goes(one, INSERTED, OWN);
         return false;
     }
     it->alone += inserted == FERRETGOLD_STANDALONE;
@@ -465,9 +476,10 @@ static void delete_one(void *context, const ferretgold_key *key, void *deleted, 
     object *one = deleted;
     (void)context;
     it->wrong += it->deletes;
-    it->wrong += !is_as_inserted(one, key, kind) || atomic_load(&one->held) != 0;
-    it->wrong += atomic_exchange(&one->state, BACK) != INSERTED;
-    atomic_store(&one->canary, 0);
+    it->wrong += !is_as_inserted(one, key, kind);
+    it->wrong += atomic_load_explicit(&one->held, memory_order_relaxed) != 0;
+    it->wrong += goes(one, INSERTED, BACK);
+    one->canary = 0;
     it->back += 1;
     if (it->operations > 0) {
         it->deletes = true;
@@ -537,8 +549,8 @@ static void finish(worker *sum, object *objects, size_t many) {
     EXPECT(sum->wrong, 0);
     EXPECT(sum->back, sum->inserted);
     for (size_t k = 0; k < many; k++) {
-        sum->back -= atomic_load(&objects[k].state) == BACK;
-        EXPECT(atomic_load(&objects[k].state) == INSERTED, false);
+        sum->back -= state_of(&objects[k]) == BACK;
+        EXPECT(state_of(&objects[k]) == INSERTED, false);
         atomic_store(&objects[k].state, OWN);
     }
     EXPECT(sum->back, 0);

@@ -29,7 +29,8 @@ from pathlib import Path
 TOP = Path(__file__).resolve().parent.parent.parent
 # What is compiled into the library.
 OBJECTS = ["src/ferretgold.c", "src/closed.c", "src/heap.c", "src/image.c", "src/sizes.c"]
-SAVES = ["src/file.c", "include/ferretgold_file.hpp"]  # what is compiled only where there is xxhash.h
+# What is compiled only where there is xxhash.h.
+SAVES = ["src/file.c", "src/object_file.c", "include/ferretgold_file.hpp"]
 HANDS = [f"src/object{it}.c" for it in ("", "_bytes", "_clients", "_opening", "_queue")]
 FILES = ["include/ferretgold.h", "include/ferretgold_inline.h", "include/ferretgold.hpp", *OBJECTS, *SAVES, *HANDS]
 APART = {*SAVES, *HANDS}  # what no trace shows
@@ -39,7 +40,7 @@ CHOSEN = {"src/object.c": "shown ferretgold_object_ref take_back ferretgold_obje
 CALLS = {"include/ferretgold_inline.h", "src/ferretgold.c"}  # where the checking library differs
 HEADERS = ["include/ferretgold_raw.h", "include/ferretgold_closed.h", "include/ferretgold_object.h",
            "include/ferretgold_file.h", "include/ferretgold_image.h",
-           "src/closed.h", "src/heap.h", "src/limits.h", "src/object.h", "src/opening.h"]
+           "src/closed.h", "src/file.h", "src/heap.h", "src/limits.h", "src/object.h", "src/opening.h"]
 CHANCE = "by chance: "
 PLAYS = ["tests/c/play.c", "tests/c/edges.c", "tests/c/closed.c", "tests/c/image.c"]
 CPP = ["tests/c/play.cpp", "tests/c/closed.cpp"]
@@ -309,7 +310,7 @@ class Trials:
         (self.folder / "std.hpp").write_text("\n".join(re.findall(r"#include <.*>", std)), encoding="utf-8")
         if any(it.endswith(".hpp") for it in files):
             subprocess.run(["c++", "-std=c++17", *WARN, "-x", "c++-header", self.folder / "std.hpp"], check=True)
-        saving = ["tests/c/file.c", "src/file.c"] if files & set(SAVES) else []
+        saving = ["tests/c/file.c", "tests/c/object_file.c", *SAVES[:2]] if files & set(SAVES) else []
         for file in (*PLAYS, *HANDED, "tests/c/heap.c", *OBJECTS, *HANDS, *saving):
             self.compiled(TOP, *WARN, "-c", TOP / file, "-o", self.object(file))
 
@@ -327,7 +328,7 @@ class Trials:
         words = [*WARN, f"-I{here}/include", "-o", here / "play", self.object("tests/c/heap.c")]
         plays = [*map(self.object, PLAYS)]
         if bug.file.endswith(".hpp"):
-            tests, library = (STREAMS, [*OBJECTS, "src/file.c"]) if bug.file in SAVES else (CPP, OBJECTS)
+            tests, library = (STREAMS, [*OBJECTS, *HANDS, *SAVES[:2]]) if bug.file in SAVES else (CPP, OBJECTS)
             return ["c++", "-std=c++17", "-include", self.folder / "std.hpp", *words, *(TOP / it for it in tests),
                     *map(self.object, library), *self.libraries]
         if bug.file.endswith(".h"):
@@ -380,12 +381,17 @@ class Trials:
 
     def saves(self, here, bug):
         """Whether caches are saved and loaded as they should be."""
-        words = [here / "play", here / "streamed"]
-        if bug.file.endswith(".c"):
-            words = [here / "file", "rows"]
-            parts = map(self.object, ("tests/c/file.c", "tests/c/heap.c", *OBJECTS))
-            self.compiled(here, "-o", here / "file", *parts, here / "apart.o", *self.libraries)
-        return self.ends(bug, 10, words)[0]
+        if bug.file.endswith(".hpp"):
+            return self.ends(bug, 10, [here / "play", here / "streamed"])[0]
+        tests = ["tests/c/file.c", "tests/c/object_file.c"]
+        for test in tests[tests.index(bug.file.replace("src", "tests/c")):]:
+            library = (here / "apart.o" if it == bug.file else self.object(it)
+                       for it in (*OBJECTS, *HANDS, *SAVES[:2]))
+            parts = map(self.object, (test, "tests/c/heap.c"))
+            self.compiled(here, "-o", here / "saves", *parts, *library, *self.libraries)
+            if not self.ends(bug, 20, [here / "saves", "rows"])[0]:
+                return False
+        return True
 
     def hands(self, here, bug):
         """Whether objects are handed back as they should be."""

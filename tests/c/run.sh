@@ -55,6 +55,11 @@ objects() {
     builds_counting "$2" cc -std=c11 "${@:3}" tests/c/object{,_bytes,_threads}.c && "$folder/built" "$1"
 }
 
+# The calls of threads alone: objects_of_threads OPERATIONS WORD..
+objects_of_threads() {
+    builds_counting -lstdc++ cc -std=c11 tests/c/object{,_bytes,_threads}.c "${@:2}" && "$folder/built" threads "$1"
+}
+
 # The same of its wrapper for C++: wraps OPERATIONS LIBRARY WORD..
 wraps() {
     builds_counting "$2" c++ -std=c++17 "${@:3}" tests/c/object.cpp && "$folder/built" "$1"
@@ -191,8 +196,7 @@ if command -v cc > /dev/null; then
         tries "traces in C, sanitized" plays "$library" cc -std=c11 "${sanitize[@]}" "${traces[@]}"
         tries "threads hand objects back, sanitized" hands 400000 "$library" -O1 "${sanitize[@]}"
         tries "the header for objects, sanitized" objects 400000 "$library" -O1 "${sanitize[@]}"
-        tries "the header for objects, threads sanitized" objects 400000 "$folder/threads/libferretgold.a" -O1 \
-            -fsanitize=thread
+        tries "the header for objects, threads sanitized" sees_steps_of objects_of_threads 1000000
         for clients in 3 70; do
             tries "threads borrow $clients clients, sanitized" lends $clients 400000 \
                 "$folder/threads/libferretgold.a" -O1 -fsanitize=thread

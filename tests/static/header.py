@@ -22,8 +22,9 @@ FIELDS = ("config", "handle", "key", "stats", "counts", "totals", "entry", "load
 HEADERS = tuple(TOP / f"include/ferretgold{it}.h" for it in ("", "_closed", "_image", "_file", "_object"))
 IN_CPP = {"ferretgold.hpp": HEADERS[:3], "ferretgold_file.hpp": HEADERS[3:4],
           "ferretgold_object.hpp": HEADERS[4:]}
-# For which C++ and Rust have types.
-ONLY_IN_C = tuple(f"ferretgold_object_{it}" for it in ("free_bytes", "insert_bytes", "bytes"))
+# For which C++ and Rust have types, and what neither has, with its status.
+ONLY_IN_C = (*(f"ferretgold_object_{it}" for it in ("free_bytes", "insert_bytes", "bytes", "save", "load",
+                                                    "size", "copy", "make")), "BUSY")
 # Functions of the caller's, which the library calls.
 GIVEN = ("ferretgold_write", "ferretgold_read", "ferretgold_deleter")
 
@@ -138,7 +139,7 @@ def numbers(kind, mark, constant, code, crate):
     """The statuses of both: those that refuse."""
     inner = "".join(re.findall(r"enum (?:ferretgold_%s )?\{(.*?)\}" % kind, code, re.S))
     both = (re.findall(rf"{mark}(\w+) = (\d+)", inner), re.findall(constant, crate, re.M))
-    return [{name: int(it) for name, it in found if int(it) > 1} for found in both]
+    return [{name: int(it) for name, it in found if int(it) > 1 and name not in ONLY_IN_C} for found in both]
 
 
 def wrappers():
