@@ -227,7 +227,7 @@ static void into_others(image *file) {
 /* No changed bit is taken, and no shorter or longer file. What stands before is loaded. */
 static void damaged(image *file) {
     const ferretgold_object_config config = config_of(2, 32, 1000);
-    const size_t length = file->length, step = 61;
+    const size_t length = file->length, step = 1021;
     ferretgold_object_cache *cache = opened(&config);
     ferretgold_loaded loaded;
     for (size_t at = 0; at < 8 * length; at += at < 8 * 400 || at > 8 * (length - 100) ? 1 : step) {
