@@ -305,6 +305,47 @@ static void seal(image *file) {
     set_number(head + HEAD - 8, 8, XXH64_digest(&state));
 }
 
+/* A value of as many bytes as a slot has at most, and numbers that would fit no shorter field. */
+static void longest(void) {
+    static image file;
+    static uint8_t value[MOST_VALUE], buffer[MOST_VALUE];
+    const ferretgold_config config = config_of(1, 8, MOST_VALUE / 8, UINT64_C(1) << 34, 5);
+    const ferretgold_key key = {UINT64_C(0xfedcba9876543210), UINT64_C(0x0f1e2d3c4b5a6978)};
+    const uint32_t charge = 0x12345678, uses = 0x1a2b3c4d;
+    ferretgold_entry entry = {0};
+    ferretgold_cache *cache;
+    ferretgold_client *client;
+    ferretgold_closed *closed;
+    for (size_t at = 0; at < MOST_VALUE; at++) {
+        value[at] = (uint8_t)(at * at >> 5);
+    }
+    EXPECT(ferretgold_open(&config, &cache), FERRETGOLD_OK);
+    EXPECT(ferretgold_client_open(cache, &client), FERRETGOLD_OK);
+    EXPECT(ferretgold_insert(client, &key, value, MOST_VALUE, charge, FERRETGOLD_LOW, NULL), FERRETGOLD_OK);
+    EXPECT(ferretgold_client_close(cache, client), FERRETGOLD_OK);
+    EXPECT(ferretgold_close_keeping(cache, &closed), FERRETGOLD_OK);
+    file.calls_left = SIZE_MAX;
+    EXPECT(ferretgold_save(closed, write_image, &file), FERRETGOLD_FILE_OK);
+    ferretgold_closed_free(closed);
+    EXPECT(load(&file, &config, false, &cache, NULL), FERRETGOLD_FILE_OK);
+    EXPECT(ferretgold_client_open(cache, &client), FERRETGOLD_OK);
+    EXPECT(ferretgold_get(client, &key, buffer, MOST_VALUE, false, NULL), FERRETGOLD_OK);
+    EXPECT(memcmp(buffer, value, MOST_VALUE), 0);
+    EXPECT(ferretgold_client_close(cache, client), FERRETGOLD_OK);
+    EXPECT(ferretgold_close(cache, NULL), FERRETGOLD_OK);
+    EXPECT(number_at(file.bytes + BEGIN + 16, 4), charge);
+    set_number(file.bytes + BEGIN + 20, 4, uses);
+    seal(&file);
+    EXPECT(load(&file, &config, false, &cache, NULL), FERRETGOLD_FILE_OK);
+    EXPECT(ferretgold_close_keeping(cache, &closed), FERRETGOLD_OK);
+    for (uint32_t slot = 0; slot < 8 && entry.charge == 0; slot++) {
+        (void)ferretgold_closed_entry(closed, 0, slot, &entry);
+    }
+    EXPECT(entry.charge == charge && entry.uses == uses, true);
+    EXPECT(entry.key.w0 == key.w0 && entry.key.w1 == key.w1, true);
+    ferretgold_closed_free(closed);
+}
+
 /* A longer file with one field changed and checksums that are right: with what status it is refused, and how
  * many entries it has until then. */
 static ferretgold_file_status changed(const image *file, size_t at, size_t count, uint64_t number,
@@ -353,34 +394,6 @@ static void otherwise_sealed(const image *file) {
         EXPECT(changed(file, rows[row].at, rows[row].count, rows[row].number, &entries), rows[row].status);
         EXPECT(entries, rows[row].entries);
     }
-}
-
-/* A value of as many bytes as a slot has at most. */
-static void longest(void) {
-    static image file;
-    static uint8_t value[MOST_VALUE], buffer[MOST_VALUE];
-    const ferretgold_config config = config_of(1, 8, MOST_VALUE / 8, 1000, 5);
-    const ferretgold_key key = {7, 1};
-    ferretgold_cache *cache;
-    ferretgold_client *client;
-    ferretgold_closed *closed;
-    for (size_t at = 0; at < MOST_VALUE; at++) {
-        value[at] = (uint8_t)(at * at >> 5);
-    }
-    EXPECT(ferretgold_open(&config, &cache), FERRETGOLD_OK);
-    EXPECT(ferretgold_client_open(cache, &client), FERRETGOLD_OK);
-    EXPECT(ferretgold_insert(client, &key, value, MOST_VALUE, 1, FERRETGOLD_LOW, NULL), FERRETGOLD_OK);
-    EXPECT(ferretgold_client_close(cache, client), FERRETGOLD_OK);
-    EXPECT(ferretgold_close_keeping(cache, &closed), FERRETGOLD_OK);
-    file.calls_left = SIZE_MAX;
-    EXPECT(ferretgold_save(closed, write_image, &file), FERRETGOLD_FILE_OK);
-    ferretgold_closed_free(closed);
-    EXPECT(load(&file, &config, false, &cache, NULL), FERRETGOLD_FILE_OK);
-    EXPECT(ferretgold_client_open(cache, &client), FERRETGOLD_OK);
-    EXPECT(ferretgold_get(client, &key, buffer, MOST_VALUE, false, NULL), FERRETGOLD_OK);
-    EXPECT(memcmp(buffer, value, MOST_VALUE), 0);
-    EXPECT(ferretgold_client_close(cache, client), FERRETGOLD_OK);
-    EXPECT(ferretgold_close(cache, NULL), FERRETGOLD_OK);
 }
 
 /* Each call of the caller's that fails is told, and leaves nothing. */

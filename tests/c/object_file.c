@@ -16,7 +16,8 @@
 #include <string.h>
 
 enum {
-    ENTRIES = 12, GONE = 3, NUMBER_KIND = 7, MOST_FILE = 1 << 20, BEGIN = 32, HEAD = 40, SUM = 8,
+    ENTRIES = 12, GONE = 3, NUMBER_KIND = 0xabcd, NUMBER_CHARGE = 0x12345678, MOST_FILE = 1 << 20,
+    BEGIN = 32, HEAD = 40, SUM = 8,
     ENOUGH = 400, /* calls or requests */
     MOST_FAULTS = 20, THREADS = 4, OPERATIONS = 30000
 };
@@ -101,7 +102,9 @@ static ferretgold_object_config config_of(uint32_t shards, uint32_t slots, uint6
     return it;
 }
 
-/* A number in place of bytes. */
+/* A number in place of bytes: none of its entry's fields would fit a shorter one. */
+static const ferretgold_key number_key = {UINT64_C(0xfedcba9876543210), UINT64_C(0x0f1e2d3c4b5a6978)};
+
 static void deleted(void *context, const ferretgold_key *key, void *object, uint16_t kind) {
     if (kind == NUMBER_KIND) {
         free(object);
@@ -129,16 +132,16 @@ static void insert(ferretgold_object_cache *cache, uint64_t number) {
 
 /* A cache with all entries but one, which was erased, and an object of another kind. */
 static ferretgold_object_cache *filled(void) {
-    const ferretgold_object_config config = config_of(2, 32, 1000);
-    const ferretgold_key gone = key_of(GONE), other = {NUMBER_KIND, 0};
+    const ferretgold_object_config config = config_of(2, 32, UINT64_C(1) << 34);
+    const ferretgold_key gone = key_of(GONE);
     ferretgold_object_cache *cache = opened(&config);
     uint64_t *number = malloc(sizeof *number);
     *number = UINT64_C(0x1122334455667788);
     for (uint64_t it = 0; it < ENTRIES; it++) {
         insert(cache, it);
     }
-    EXPECT(ferretgold_object_insert(cache, &other, number, NUMBER_KIND, 9, FERRETGOLD_LOW, NULL),
-           FERRETGOLD_OK);
+    EXPECT(ferretgold_object_insert(cache, &number_key, number, NUMBER_KIND, NUMBER_CHARGE,
+                                    FERRETGOLD_LOW, NULL), FERRETGOLD_OK);
     EXPECT(ferretgold_object_erase(cache, &gone, NULL), FERRETGOLD_OK);
     return cache;
 }
@@ -386,7 +389,9 @@ static bool number_copy(void *context, const ferretgold_object_handle *handle, u
 
 static bool number_make(void *context, const ferretgold_object_saved *it) {
     uint64_t number = 0;
-    EXPECT(it->kind == NUMBER_KIND && it->charge == 9 && it->length == sizeof number, true);
+    EXPECT(it->key.w0 == number_key.w0 && it->key.w1 == number_key.w1, true);
+    EXPECT(it->kind == NUMBER_KIND && it->charge == NUMBER_CHARGE, true);
+    EXPECT(it->length, sizeof number);
     memcpy(&number, it->bytes, sizeof number);
     *(uint64_t *)context += number;
     return false;
