@@ -149,7 +149,9 @@ typedef enum ferretgold_status {
     /* Clients of the cache are out. */
     FERRETGOLD_CLIENTS_OUT = 39,
     /* The configuration has a size that this library doesn't know. */
-    FERRETGOLD_BAD_SIZE = 40
+    FERRETGOLD_BAD_SIZE = 40,
+    /* The system has no number to draw for a seed yet, as early at its start. */
+    FERRETGOLD_NO_SEED = 45
 } ferretgold_status;
 
 /* How many visits of the clock a new entry that nobody looks up survives: 3, 2 or 1. */
@@ -172,6 +174,9 @@ typedef enum ferretgold_inserted {
 /* The most serials of a client: 2^54. */
 #define FERRETGOLD_MOST_SERIALS UINT64_C(0x40000000000000)
 
+/* In place of a seed: keys stay as they are. */
+#define FERRETGOLD_UNSEEDED UINT64_MAX
+
 /* How large a cache is, and how it behaves. */
 typedef struct ferretgold_config {
     uint32_t slots;    /* of each shard: a power of two, 8 to 65,536 */
@@ -187,15 +192,16 @@ typedef struct ferretgold_config {
     uint64_t capacity; /* in charges, at most 2^40; each shard has an equal part, rounded up */
     uint64_t serials;  /* of each client: 1 to 2^54; an insertion uses one, and so does a handle
                           that ferretgold_lookup or ferretgold_reref gives */
-    uint64_t seed;     /* of the keys; 0 only if keys are spread already, as hashes are: keys of
-                          blocks, say, are found five to twenty times slower without one */
+    uint64_t seed;     /* of the keys; 0: opening draws one, so that nobody knows it.
+                          FERRETGOLD_UNSEEDED only if keys are spread already, as hashes are: keys
+                          of blocks, say, are found five to twenty times slower so */
 } ferretgold_config;
 
 /* A configuration to begin with: 4,096 slots with room for 4,096 bytes each (17 MB), not strict,
- * 16 clients. Its seed is known to whoever reads this: draw one if others choose the keys. */
+ * 16 clients. Its seed is drawn. */
 #define FERRETGOLD_CONFIG \
     {1024, 512, 16, 16, 4, false, false, sizeof(ferretgold_config), 11743232, \
-     FERRETGOLD_MOST_SERIALS, UINT64_C(0x9e3779b97f4a7c15)}
+     FERRETGOLD_MOST_SERIALS, 0}
 
 /* A key of 16 bytes. */
 typedef struct ferretgold_key {
@@ -272,8 +278,8 @@ ferretgold_status ferretgold_config_for(uint64_t bytes, size_t value, uint32_t t
                                         ferretgold_config *config);
 
 /*
- * Whether a cache can be opened so, whatever memory there is: refuses what ferretgold_open refuses,
- * except OUT_OF_MEMORY.
+ * Whether a cache can be opened so, whatever the system gives: refuses what ferretgold_open
+ * refuses, except NO_SEED and OUT_OF_MEMORY.
  */
 ferretgold_status ferretgold_config_check(const ferretgold_config *config);
 
@@ -282,10 +288,11 @@ ferretgold_status ferretgold_config_check(const ferretgold_config *config);
 /*
  * Opens a cache with no entries, and with all its clients. None is out yet.
  *
- * Allocates the table and all clients (ferretgold_memory). Costs two stores for each word.
+ * Allocates the table and all clients (ferretgold_memory). Costs two stores for each word, and for a
+ * seed that is drawn one call of getrandom, which doesn't wait.
  *
  * Refuses BAD_SIZE, BAD_SLOTS, BAD_ROOM, BAD_CLIENTS, BAD_HANDLES, BAD_SHARDS, BAD_CAPACITY,
- * BAD_SERIALS, then OUT_OF_MEMORY. Nothing remains then.
+ * BAD_SERIALS, then NO_SEED, if one is to be drawn, then OUT_OF_MEMORY. Nothing remains then.
  */
 ferretgold_status ferretgold_open(const ferretgold_config *config, ferretgold_cache **cache);
 
@@ -331,7 +338,8 @@ ferretgold_status ferretgold_client_close_releasing(ferretgold_cache *cache,
  */
 ferretgold_status ferretgold_close(ferretgold_cache *cache, ferretgold_totals *totals);
 
-/* The configuration that a cache was opened with. */
+/* The configuration that a cache was opened with, and in it the seed that was drawn: a cache that is
+ * opened with this has each key at the same slots. */
 ferretgold_status ferretgold_config_of(const ferretgold_cache *cache, ferretgold_config *config);
 
 /* The most bytes of a value: 8 * room. 0 if `cache` is null. */

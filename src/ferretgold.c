@@ -1,6 +1,6 @@
 /* What the calls of ferretgold.h do round the proved library, which ferretgold_raw.h declares: they
- * look for null pointers, number the caches, and give out and take back clients. What of it is inline
- * stands in ferretgold_inline.h. It is tested, not proved.
+ * look for null pointers, and give out and take back clients. What of it is inline stands in
+ * ferretgold_inline.h. It is tested, not proved.
  *
  * With FERRETGOLD_CHECK each call on a client looks whether another thread is in a call on it, and
  * ends the program then. */
@@ -210,27 +210,37 @@ ferretgold_status ferretgold_config_check(const ferretgold_config *config) {
                               : FERRETGOLD_BAD_SIZE;
 }
 
-ferretgold_status cache_judge(const ferretgold_config *config, ferretgold_cache **cache) {
-    return cache == NULL ? FERRETGOLD_NULL : ferretgold_config_check(config);
+ferretgold_status cache_judge(const ferretgold_config *config, ferretgold_cache **cache,
+                              ferretgold_config *seeded) {
+    const ferretgold_status status =
+        cache == NULL ? FERRETGOLD_NULL : ferretgold_config_check(config);
+    if (status != FERRETGOLD_OK) {
+        return status;
+    }
+    *seeded = *config;
+    return seed_drawn(&seeded->seed);
 }
 
-uint32_t cache_number(void) {
-    static atomic_uint opened = 0;
-    return atomic_fetch_add(&opened, 1) + 1;
+ferretgold_config cache_proved(const ferretgold_config *seeded) {
+    ferretgold_config proved = *seeded;
+    proved.seed = seed_proved(seeded->seed);
+    return proved;
 }
 
 ferretgold_status ferretgold_open(const ferretgold_config *config, ferretgold_cache **cache) {
-    const ferretgold_status status = cache_judge(config, cache);
+    ferretgold_config seeded;
+    const ferretgold_status status = cache_judge(config, cache, &seeded);
     if (status != FERRETGOLD_OK) {
         return status;
     }
     opened_cache opened = {{NULL}, {{NULL}}};
-    ferretgold_cache *it = cache_made(config);
+    const ferretgold_config proved = cache_proved(&seeded);
+    ferretgold_cache *it = cache_made(&seeded);
     if (it == NULL) {
         return FERRETGOLD_OUT_OF_MEMORY;
     }
     return cache_begin(it,
-                       ferretgold_raw_open(config, cache_number(), opened.client, config->clients,
+                       ferretgold_raw_open(&proved, cache_number(), opened.client, proved.clients,
                                            &opened.cache),
                        &opened, cache);
 }
@@ -492,6 +502,7 @@ const char *ferretgold_status_text(ferretgold_status status) {
     case FERRETGOLD_HANDLES_OUT: return "the client holds handles";
     case FERRETGOLD_CLIENTS_OUT: return "clients of the cache are out";
     case FERRETGOLD_BAD_SIZE: return "the library doesn't know this size of configuration";
+    case FERRETGOLD_NO_SEED: return "the system has no number for a seed yet";
     }
     return object_status_text((uint32_t)status);
 }

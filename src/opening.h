@@ -5,11 +5,26 @@
 #include "ferretgold_raw.h"
 #include "limits.h"
 
-/* What is refused whatever memory there is: so no cache that is refused so takes a number. */
-ferretgold_status cache_judge(const ferretgold_config *config, ferretgold_cache **cache);
+/* ---- drawing.c ------------------------------------------------------------------------------- */
+
+/* Draws a seed where 0 stands for one, and refuses by NO_SEED. */
+ferretgold_status seed_drawn(uint64_t *seed);
+
+/* A seed as the proved library has it, whose keys stay as they are under 0. */
+uint64_t seed_proved(uint64_t seed);
 
 /* A number that no cache had, of 2^32. */
 uint32_t cache_number(void);
+
+/* ---- ferretgold.c ---------------------------------------------------------------------------- */
+
+/* What is refused whatever memory there is: so no cache that is refused so takes a number. What
+ * isn't goes to `seeded`, with its seed. */
+ferretgold_status cache_judge(const ferretgold_config *config, ferretgold_cache **cache,
+                              ferretgold_config *seeded);
+
+/* A configuration as the proved library takes it. */
+ferretgold_config cache_proved(const ferretgold_config *seeded);
 
 /* What the proved library opens: a cache, and a client in the place of each number. */
 typedef struct opened_cache {

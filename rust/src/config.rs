@@ -6,6 +6,9 @@ use crate::{raw, Refused};
 /// The most serials of a client.
 pub const MOST_SERIALS: u64 = 1 << 54;
 
+/// In place of a seed: keys stay as they are.
+pub const UNSEEDED: u64 = u64::MAX;
+
 /// How large a cache is, and how it behaves, as `ferretgold_config` of ferretgold.h.
 ///
 /// ```
@@ -16,7 +19,9 @@ pub const MOST_SERIALS: u64 = 1 << 54;
 /// let bad = Config { slots: 65, ..config };
 /// assert_eq!(bad.check(), Err(Refused::BAD_SLOTS));
 /// assert_eq!(Cache::open(&bad).unwrap_err(), Refused::BAD_SLOTS);
-/// assert_eq!(Cache::open(&config)?.config(), config);
+/// let opened = Cache::open(&config)?.config();
+/// assert_ne!(opened.seed, 0); // it was drawn
+/// assert_eq!(opened, Config { seed: opened.seed, ..config });
 /// # Ok::<(), Refused>(())
 /// ```
 #[derive(Clone, Copy, Debug, PartialEq, Eq)]
@@ -39,12 +44,11 @@ pub struct Config {
     pub capacity: u64,
     /// Serials of each client: 1 to 2^54.
     pub serials: u64,
-    /// Of the keys; 0 only if keys are spread already.
+    /// Of the keys; 0: opening draws one. [`UNSEEDED`] only if keys are spread already.
     pub seed: u64,
 }
 
-/// A configuration to begin with, as `FERRETGOLD_CONFIG` of ferretgold.h. Its seed is known to whoever
-/// reads this: draw one if others choose the keys.
+/// A configuration to begin with, as `FERRETGOLD_CONFIG` of ferretgold.h. Its seed is drawn.
 impl Default for Config {
     fn default() -> Config {
         Config {
@@ -57,7 +61,7 @@ impl Default for Config {
             marks: false,
             capacity: 11_743_232,
             serials: MOST_SERIALS,
-            seed: 0x9e37_79b9_7f4a_7c15,
+            seed: 0,
         }
     }
 }
@@ -71,7 +75,7 @@ impl Config {
         Ok(Config::of(&it))
     }
 
-    /// Whether a cache can be opened so, whatever memory there is.
+    /// Whether a cache can be opened so, whatever the system gives.
     pub fn check(&self) -> Result<(), Refused> {
         judged(unsafe { raw::ferretgold_config_check(&self.raw()) })
     }

@@ -16,6 +16,7 @@ fn small() -> Config {
         handles: 3,
         shards: 1,
         capacity: 600,
+        seed: 7,
         ..Config::default()
     }
 }

@@ -32,22 +32,23 @@ static void texts(void) {
         {38, "the client holds handles"}, {39, "clients of the cache are out"},
         {40, "the library doesn't know this size of configuration"},
         {41, "the client's list is full"}, {42, "the object's address is 2^48 or above"},
-        {43, "gone must be 4 to 65,536"}, {44, "objects weren't taken off a list"}, {2, "unknown"},
-        {45, "unknown"}};
+        {43, "gone must be 4 to 65,536"}, {44, "objects weren't taken off a list"},
+        {45, "the system has no number for a seed yet"}, {2, "unknown"}, {46, "unknown"}};
     for (size_t k = 0; k < sizeof all / sizeof *all; k++) {
         EXPECT(strcmp(ferretgold_status_text((ferretgold_status)all[k].status), all[k].text), 0);
     }
     EXPECT(strcmp(ferretgold_version(), FERRETGOLD_VERSION), 0);
 }
 
-/* Each field of a configuration, one below and one above what it may be: no memory is asked for. */
+/* Each field of a configuration, one below and one above what it may be: no memory is asked for, and
+ * no number drawn. */
 static void configurations(void) {
     ferretgold_cache *none = NULL;
     ferretgold_config all[18];
     static const int wanted[] = {29, 29, 29, 29, 30, 30, 31, 31, 32,
                                  32, 33, 33, 33, 33, 34, 34, 35, 35};
     for (size_t k = 0; k < 18; k++) {
-        all[k] = SMALL;
+        all[k] = SMALL, all[k].seed = 0;
     }
     all[0].slots = 0, all[1].slots = 4, all[2].slots = 9, all[3].slots = 131072;
     all[4].room = 0, all[5].room = 513;
@@ -57,9 +58,9 @@ static void configurations(void) {
     all[14].capacity = (UINT64_C(1) << 40) + 1, all[15].capacity = UINT64_MAX;
     all[16].serials = 0, all[17].serials = FERRETGOLD_MOST_SERIALS + 1;
     for (size_t k = 0; k < 18; k++) {
-        heap_left = 0;
+        heap_left = 0, draws_left = 0;
         EXPECT(ferretgold_open(&all[k], &none), wanted[k]);
-        heap_left = SIZE_MAX;
+        heap_left = SIZE_MAX, draws_left = -1;
         EXPECT(ferretgold_config_check(&all[k]), wanted[k]);
     }
     EXPECT(none == NULL, true);
@@ -199,7 +200,7 @@ static void budgets(void) {
         EXPECT(it.clients, all[k].threads);
         EXPECT(it.capacity, all[k].capacity);
         EXPECT(ferretgold_memory(&it) <= all[k].bytes, true);
-        EXPECT(it.seed != 0 && it.serials == FERRETGOLD_MOST_SERIALS && it.handles == 16, true);
+        EXPECT(it.seed == 0 && it.serials == FERRETGOLD_MOST_SERIALS && it.handles == 16, true);
     }
     it = SMALL;
     EXPECT(ferretgold_config_for(1 << 20, 8, 1, NULL), 16);
@@ -218,6 +219,7 @@ static void initialiser(void) {
     ferretgold_cache *cache = NULL;
     EXPECT(ferretgold_open(&config, &cache), 0);
     EXPECT(ferretgold_close(cache, NULL), 0);
+    EXPECT(config.seed, 0);
     EXPECT(config.capacity, config.slots * config.shards * UINT64_C(7) / 10 * config.room * 8);
 }
 

@@ -23,4 +23,7 @@ void images(void);
 /* What no trace shows. */
 void edges(void);
 
+/* Seeds, and what is drawn. */
+void seeds(void);
+
 #endif

@@ -282,6 +282,7 @@ ferretgold_config config_of(const words &options) {
         config.serials = name == "--serials" ? wide : config.serials;
         config.seed = name == "--seed" ? wide : config.seed;
     }
+    config.seed = config.seed != 0 ? config.seed : FERRETGOLD_UNSEEDED; // as traces have it
     return config;
 }
 
@@ -419,6 +420,23 @@ void moved_caches() {
     ferretgold_cache *const was = second.get();
     it = std::move(second);
     EXPECT(it.get() == was && second.get() == nullptr);
+}
+
+// The seed that a cache has opens another one so; where the system gives none, both forms refuse.
+void seeded() {
+    ferretgold_config config = small();
+    config.seed = 0;
+    const ferretgold_config is = cache(config).config();
+    EXPECT(is.seed != 0 && is.seed != FERRETGOLD_UNSEEDED);
+    EXPECT(cache(is).config().seed == is.seed);
+    ferretgold_status why{};
+    draws_left = 0;
+    EXPECT(ferretgold::check(config) == FERRETGOLD_OK);
+    EXPECT(cache(config, why).get() == nullptr && why == FERRETGOLD_NO_SEED);
+    EXPECT(refuses([&] { cache none(config); }, FERRETGOLD_NO_SEED));
+    EXPECT(refuses([&] { (void)ferretgold::image().reopen(config); }, FERRETGOLD_NO_SEED));
+    EXPECT(cache(is).get() != nullptr);
+    draws_left = -1;
 }
 
 // What is none is refused, by both forms of each call.
@@ -584,6 +602,7 @@ void edges() {
     lent();
     defaults();
     moved_caches();
+    seeded();
     outlived();
     given();
     nobody();

@@ -52,7 +52,7 @@ hands() {
 
 # Makes the calls of ferretgold_object.h, so many by threads: objects OPERATIONS LIBRARY WORD..
 objects() {
-    builds_counting "$2" cc -std=c11 "${@:3}" tests/c/object{,_bytes,_threads}.c && "$folder/built" "$1"
+    builds_counting "$2" cc -std=c11 "${@:3}" tests/c/object{,_bytes,_seeds,_threads}.c && "$folder/built" "$1"
 }
 
 # The same of its wrapper for C++: wraps OPERATIONS LIBRARY WORD..
@@ -74,15 +74,17 @@ owns() {
             "$folder/met" && [[ $(wc -l < "$folder/met") == 1 ]]
 }
 
-# The crate's tests of objects: objects_in_rust LIBRARY WORD..
+# The crate's tests of objects and of seeds, these also where no seed can be drawn: objects_in_rust LIBRARY WORD..
 objects_in_rust() {
     local name words=(--edition 2021 -O -D warnings) sanitizer=
     [[ $# == 1 ]] || sanitizer=$(readlink -f "$(cc -print-file-name=libasan.so)")
     rustc "${words[@]}" --crate-type rlib --crate-name ferretgold rust/src/lib.rs --out-dir "$folder" || return
-    for name in objects loads; do
+    for name in objects loads seeds; do
         rustc "${words[@]}" --test "rust/tests/$name.rs" --extern "ferretgold=$folder/libferretgold.rlib" \
             -C link-arg="$1" "${@:2}" -o "$folder/built" && LD_PRELOAD=$sanitizer "$folder/built" || return
     done
+    cc -shared -fPIC tests/c/no_seeds.c -o "$folder/no_seeds.so" \
+        && NO_SEEDS=1 LD_PRELOAD=$sanitizer:$folder/no_seeds.so "$folder/built"
 }
 
 # Builds a program and runs it: runs WORD..
@@ -159,9 +161,9 @@ sanitize=(-fsanitize=address,undefined -fno-sanitize-recover=all)
 in_rust='40000 squares are right, and the books agree with the slots
 40000 blocks are right'
 
-wrap=-Wl,--wrap=malloc,--wrap=realloc,--wrap=aligned_alloc,--wrap=free
+wrap=-Wl,--wrap=malloc,--wrap=realloc,--wrap=aligned_alloc,--wrap=free,--wrap=getrandom
 library=src/out/libferretgold.a
-traces=(tests/c/play.c tests/c/edges.c tests/c/closed.c tests/c/image.c)
+traces=(tests/c/{play,edges,seeds,closed,image}.c)
 met='ferretgold: two threads use client 0 at once: ferretgold_usage and ferretgold_insert_pinned'
 
 if command -v cc > /dev/null; then

@@ -1,0 +1,32 @@
+/* What a cache needs that nobody can foresee: a seed, and where caches are numbered from. */
+#include "opening.h"
+
+#include <stdatomic.h>
+#include <sys/random.h>
+
+/* Draws a number. False where the system has none yet, for which nobody waits. */
+static bool drawn(uint64_t *number) {
+    return getrandom(number, sizeof *number, GRND_NONBLOCK) == (ssize_t)sizeof *number;
+}
+
+ferretgold_status seed_drawn(uint64_t *seed) {
+    uint64_t it = 0;
+    if (*seed != 0) {
+        return FERRETGOLD_OK;
+    }
+    if (!drawn(&it)) {
+        return FERRETGOLD_NO_SEED;
+    }
+    /* Neither of the two that mean something else. */
+    *seed = it == 0 || it == FERRETGOLD_UNSEEDED ? it ^ 1 : it;
+    return FERRETGOLD_OK;
+}
+
+uint64_t seed_proved(uint64_t seed) {
+    return seed != FERRETGOLD_UNSEEDED ? seed : 0;
+}
+
+uint32_t cache_number(void) {
+    static atomic_uint opened = 0;
+    return atomic_fetch_add(&opened, 1) + 1;
+}
