@@ -38,7 +38,9 @@
  *   A handle is a reference on an entry: while it is held, the entry keeps its key and its value.
  *   It is a small value, copied freely. One that was released, or that another client or another
  *   cache gave, is refused by FERRETGOLD_NO_HANDLE, and stays so: no serial of a client comes
- *   twice, nor does a cache's number, of 2^32, in one process.
+ *   twice, nor does a cache's number, of 2^32 - 1. If a process has two copies of the library, one
+ *   in a plugin, say, each numbers its caches from a drawn number on: where both open n caches, two
+ *   of these have one number by a chance of 2n of 2^32.
  *
  * REFUSALS
  *   A call that returns FERRETGOLD_OK did what it says. A call that refuses changed nothing: no
@@ -69,6 +71,9 @@
  *     has these numbers. Functions keep their parameters, structs their layout, enumerators their
  *     numbers, and the library takes each size that ferretgold_config had. Calls that fill one fill
  *     the 48 bytes that it has now.
+ *   A program that was compiled with the header of another MAJOR.MINOR doesn't link: what opens a
+ *   cache is linked by a name that has these numbers, from the Rust crate too, and inline calls use
+ *   one. A binding that asks for ferretgold_open by its plain name gets it.
  *   A PATCH changes neither. libferretgold.so exports the functions of this header, of _closed.h,
  *   _image.h and _object.h, and of ferretgold_raw.h those that ferretgold_inline.h calls.
  */
@@ -80,6 +85,17 @@
 #define FERRETGOLD_VERSION_MINOR 1
 #define FERRETGOLD_VERSION_PATCH 0
 #define FERRETGOLD_VERSION "0.1.0"
+
+/* A name that has these numbers in it: name_MAJOR_MINOR. */
+#define FERRETGOLD_OF_VERSION(name) \
+    FERRETGOLD_NUMBERED(name, FERRETGOLD_VERSION_MAJOR, FERRETGOLD_VERSION_MINOR)
+#define FERRETGOLD_NUMBERED(name, major, minor) FERRETGOLD_JOINED(name, major, minor)
+#define FERRETGOLD_JOINED(name, major, minor) name##_##major##_##minor
+
+/* How a function is linked: by such a name, which only a library of this version has. */
+#define FERRETGOLD_LINKED(name) __asm__(FERRETGOLD_TEXT(FERRETGOLD_OF_VERSION(name)))
+#define FERRETGOLD_TEXT(name) FERRETGOLD_QUOTED(name)
+#define FERRETGOLD_QUOTED(name) #name
 
 #include <stdbool.h>
 #include <stddef.h>
@@ -260,7 +276,7 @@ typedef struct ferretgold_client ferretgold_client;
  *     + 64 * (clients / 64, rounded up) + 560
  * A shard's table, slots * 8 * (7 + room) + 96 of these, is rounded up to whole pages of 2 MiB from
  * 4 MiB on: it begins at one, and lies on such pages where the system gives them. ferretgold_open
- * needs one shard's table more for a while. 0 if `config` is null.
+ * needs one shard's table more for a while. 0 where ferretgold_config_check refuses.
  */
 uint64_t ferretgold_memory(const ferretgold_config *config);
 
@@ -294,7 +310,8 @@ ferretgold_status ferretgold_config_check(const ferretgold_config *config);
  * Refuses BAD_SIZE, BAD_SLOTS, BAD_ROOM, BAD_CLIENTS, BAD_HANDLES, BAD_SHARDS, BAD_CAPACITY,
  * BAD_SERIALS, then NO_SEED, if one is to be drawn, then OUT_OF_MEMORY. Nothing remains then.
  */
-ferretgold_status ferretgold_open(const ferretgold_config *config, ferretgold_cache **cache);
+ferretgold_status ferretgold_open(const ferretgold_config *config, ferretgold_cache **cache)
+    FERRETGOLD_LINKED(ferretgold_open);
 
 /*
  * Gives out an idle client. It holds no handle, and has the serials left that it had, and its

@@ -49,7 +49,7 @@ template <typename Call> auto must(Call call) {
 // The version of the library.
 inline const char *version() noexcept { return ferretgold_version(); }
 
-// How many bytes a cache of this configuration allocates.
+// How many bytes a cache of this configuration allocates; 0 where it is refused.
 inline std::uint64_t memory(const ferretgold_config &config) noexcept {
     return ferretgold_memory(&config);
 }

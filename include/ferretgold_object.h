@@ -141,8 +141,8 @@ typedef struct ferretgold_object_cache ferretgold_object_cache;
  * How many bytes a cache of this configuration allocates:
  *     shards * (272 + slots * 64) + 6448
  *     + clients * (1064 + 72 * shards + 192 * handles + 24 * gone)
- * A shard's table is rounded up as ferretgold_memory says. The checking library takes more. 0 if
- * `config` is null.
+ * A shard's table is rounded up as ferretgold_memory says. The checking library takes more. 0 where
+ * ferretgold_object_config_check refuses.
  */
 uint64_t ferretgold_object_memory(const ferretgold_object_config *config);
 
@@ -163,7 +163,8 @@ ferretgold_status ferretgold_object_config_check(const ferretgold_object_config 
  */
 ferretgold_status ferretgold_object_open(const ferretgold_object_config *config,
                                          ferretgold_deleter deleter, void *context,
-                                         ferretgold_object_cache **cache);
+                                         ferretgold_object_cache **cache)
+    FERRETGOLD_LINKED(ferretgold_object_open);
 
 /* The configuration that a cache was opened with, and in it the seed that was drawn. */
 ferretgold_status ferretgold_object_config_of(const ferretgold_object_cache *cache,

@@ -26,7 +26,23 @@ uint64_t seed_proved(uint64_t seed) {
     return seed != FERRETGOLD_UNSEEDED ? seed : 0;
 }
 
+/* Where this copy of the library begins to number caches, so that it takes no handle of another copy's
+ * in the process for its own. Where the system has no number yet it is where the copy lies. */
+static uint64_t first_number(void) {
+    static _Atomic(uint64_t) first = 0;
+    uint64_t it = atomic_load(&first);
+    if (it == 0) {
+        uint64_t fresh = 0;
+        if (!drawn(&fresh)) {
+            fresh = (uintptr_t)&first;
+        }
+        fresh = fresh % UINT32_MAX + 1;
+        it = atomic_compare_exchange_strong(&first, &it, fresh) ? fresh : it;
+    }
+    return it;
+}
+
 uint32_t cache_number(void) {
-    static atomic_uint opened = 0;
-    return atomic_fetch_add(&opened, 1) + 1;
+    static _Atomic(uint64_t) opened = 0;
+    return (uint32_t)((first_number() + atomic_fetch_add(&opened, 1)) % UINT32_MAX) + 1;
 }

@@ -13,6 +13,7 @@
 #include "closed.h"
 #include "opening.h"
 
+#include <pthread.h>
 #include <stdatomic.h>
 #include <stdlib.h>
 #include <string.h>
@@ -25,6 +26,10 @@ static void ferretgold_quit(ferretgold_client *client);
 #endif
 
 enum { LINE = 64, BITS = 64 };
+
+ferretgold_status FERRETGOLD_OF_VERSION(ferretgold_idle)(void) {
+    return FERRETGOLD_NO_CLIENT;
+}
 
 /* The clients that are idle, 64 in a row: a bit for each, in the one word or in the other. */
 typedef struct ferretgold_row {
@@ -94,20 +99,26 @@ static uint32_t rows_for(uint32_t clients) {
     return (clients + BITS - 1) / BITS;
 }
 
-/* Takes a client that is idle: one with serials left if this call found one, beginning where this
- * thread found one last. Its number, or the count of all clients if each word was seen 0. That a
- * thread first comes here allocates nothing, in a library that is loaded late either. */
+/* The client at which this thread begins to look for an idle one, of so many: always the same one, and
+ * for most threads another. A variable of each thread's would cost one that first comes here memory, in
+ * a library that is loaded late, or not let it be loaded so. */
+static uint32_t home(uint32_t clients) {
+    const uint64_t self = (uintptr_t)pthread_self();
+    return (uint32_t)((self * UINT64_C(0x9e3779b97f4a7c15) >> 32) * clients >> 32);
+}
+
+/* Takes a client that is idle: one with serials left if this call found one. Its number, or the count of
+ * all clients if each word was seen 0. */
 static uint32_t take(ferretgold_cache *cache) {
-    static _Thread_local uint32_t last __attribute__((tls_model("initial-exec"))) = 0;
+    const uint32_t first = home(cache->config.clients);
     const uint32_t rows = rows_for(cache->config.clients);
     for (uint32_t spent = 0; spent < 2; spent++) {
         for (uint32_t k = 0; k < rows; k++) {
-            const uint32_t at = (last / BITS + k) % rows;
+            const uint32_t at = (first / BITS + k) % rows;
             ferretgold_row *row = &cache->row[at];
-            const uint32_t place = take_bit(spent ? &row->spent : &row->idle, last % BITS);
+            const uint32_t place = take_bit(spent ? &row->spent : &row->idle, first % BITS);
             if (place < BITS) {
-                last = at * BITS + place;
-                return last;
+                return at * BITS + place;
             }
         }
     }
@@ -244,6 +255,8 @@ ferretgold_status ferretgold_open(const ferretgold_config *config, ferretgold_ca
                                            &opened.cache),
                        &opened, cache);
 }
+
+PLAINLY(ferretgold_open);
 
 ferretgold_status ferretgold_config_of(const ferretgold_cache *cache, ferretgold_config *config) {
     if (cache == NULL || config == NULL) {

@@ -62,3 +62,5 @@ ferretgold_status ferretgold_reopen(const ferretgold_config *config, ferretgold_
     }
     return status;
 }
+
+PLAINLY(ferretgold_reopen);

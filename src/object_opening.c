@@ -25,7 +25,7 @@ static uint64_t own_memory(const ferretgold_object_config *config) {
 }
 
 uint64_t ferretgold_object_memory(const ferretgold_object_config *config) {
-    if (config == NULL) {
+    if (ferretgold_object_config_check(config) != FERRETGOLD_OK) {
         return 0;
     }
     const uint64_t shards = config->shards, clients = config->clients;
@@ -142,6 +142,8 @@ ferretgold_status ferretgold_object_open(const ferretgold_object_config *config,
     *cache = it;
     return FERRETGOLD_OK;
 }
+
+PLAINLY(ferretgold_object_open);
 
 ferretgold_status ferretgold_object_config_of(const ferretgold_object_cache *cache,
                                               ferretgold_object_config *config) {

@@ -5,6 +5,11 @@
 #include "ferretgold_raw.h"
 #include "limits.h"
 
+/* A function's plain name, for other languages, beside the one by which C links it. */
+#define PLAINLY(name) \
+    extern __typeof__(name) name##_plainly __asm__(#name) \
+        __attribute__((alias(FERRETGOLD_TEXT(FERRETGOLD_OF_VERSION(name)))))
+
 /* ---- drawing.c ------------------------------------------------------------------------------- */
 
 /* Draws a seed where 0 stands for one, and refuses by NO_SEED. */
@@ -13,7 +18,7 @@ ferretgold_status seed_drawn(uint64_t *seed);
 /* A seed as the proved library has it, whose keys stay as they are under 0. */
 uint64_t seed_proved(uint64_t seed);
 
-/* A number that no cache had, of 2^32. */
+/* A number that no cache of this copy of the library had, of 2^32 - 1: never 0. */
 uint32_t cache_number(void);
 
 /* ---- ferretgold.c ---------------------------------------------------------------------------- */

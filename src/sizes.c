@@ -7,7 +7,7 @@
 enum { SEVERAL = 1024 };
 
 uint64_t ferretgold_memory(const ferretgold_config *config) {
-    if (config == NULL) {
+    if (ferretgold_config_check(config) != FERRETGOLD_OK) {
         return 0;
     }
     const uint64_t shards = config->shards, clients = config->clients;

@@ -80,7 +80,7 @@ impl Config {
         judged(unsafe { raw::ferretgold_config_check(&self.raw()) })
     }
 
-    /// How many bytes a cache of this configuration allocates.
+    /// How many bytes a cache of this configuration allocates; 0 where it is refused.
     pub fn memory(&self) -> u64 {
         unsafe { raw::ferretgold_memory(&self.raw()) }
     }

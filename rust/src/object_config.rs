@@ -94,7 +94,8 @@ impl ObjectConfig {
         judged(unsafe { raw::ferretgold_object_config_check(&self.raw()) })
     }
 
-    /// How many bytes a cache of this configuration allocates, beside what the objects are.
+    /// How many bytes a cache of this configuration allocates, beside what the objects are; 0 where it
+    /// is refused.
     pub fn memory(&self) -> u64 {
         unsafe { raw::ferretgold_object_memory(&self.raw()) }
     }

@@ -1,5 +1,5 @@
-//! The functions of ferretgold.h, _closed.h, _image.h, _object.h and _file.h, as C has them.
-//! tests/static/check.py compares the two.
+//! The functions of ferretgold.h, _closed.h, _image.h, _object.h and _file.h, as C has them, also by the
+//! names by which C links them. tests/static/check.py compares the two.
 
 use std::ffi::c_void;
 use std::os::raw::c_char;
@@ -86,6 +86,7 @@ extern "C" {
     pub fn ferretgold_config_of(cache: *const Cache, config: *mut Config) -> u32;
     pub fn ferretgold_value_limit(cache: *const Cache) -> usize;
     pub fn ferretgold_cache_counts(cache: *const Cache, counts: *mut Counts) -> u32;
+    #[link_name = "ferretgold_open_0_1"]
     pub fn ferretgold_open(config: *const Config, cache: *mut *mut Cache) -> u32;
     pub fn ferretgold_client_open(cache: *mut Cache, client: *mut *mut Client) -> u32;
     pub fn ferretgold_client_close(cache: *mut Cache, client: *mut Client) -> u32;
@@ -178,6 +179,7 @@ extern "C" {
         uses: u32,
     ) -> u32;
     pub fn ferretgold_image_free(image: *mut Image);
+    #[link_name = "ferretgold_reopen_0_1"]
     pub fn ferretgold_reopen(
         config: *const Config,
         image: *mut Image,
@@ -210,6 +212,7 @@ pub type Deleter =
 extern "C" {
     pub fn ferretgold_object_memory(config: *const ObjectConfig) -> u64;
     pub fn ferretgold_object_config_check(config: *const ObjectConfig) -> u32;
+    #[link_name = "ferretgold_object_open_0_1"]
     pub fn ferretgold_object_open(
         config: *const ObjectConfig,
         deleter: Deleter,

@@ -62,6 +62,7 @@ static void configurations(void) {
         EXPECT(ferretgold_open(&all[k], &none), wanted[k]);
         heap_left = SIZE_MAX, draws_left = -1;
         EXPECT(ferretgold_config_check(&all[k]), wanted[k]);
+        EXPECT(ferretgold_memory(&all[k]), 0);
     }
     EXPECT(none == NULL, true);
 }
@@ -90,6 +91,7 @@ static void sizes(void) {
         ferretgold_cache *cache = NULL;
         it.size = all[k].size;
         EXPECT(ferretgold_config_check(&it), all[k].wanted);
+        EXPECT(ferretgold_memory(&it) > 0, all[k].wanted == 0);
         EXPECT(ferretgold_open(&it, &cache), all[k].wanted);
         EXPECT(cache == NULL, all[k].wanted != 0);
         if (cache != NULL) {
@@ -308,9 +310,13 @@ static void no_handle(ferretgold_client *it, ferretgold_handle handle) {
     EXPECT(more.serial == 5 && key.w0 == 5 && length == 5 && freed && byte == 5, true);
 }
 
-/* The first handles of the first caches of a process: no call gives one of zeros, nor takes it. */
+/* The first handles of the first caches of a process, which are numbered from what was drawn on: no call
+ * gives one of zeros, nor takes it. */
 static void first_handles(void) {
     const ferretgold_handle zeros = {0, 0, 0, 0};
+    const uint64_t drawn = UINT32_MAX - 3;
+    const uint32_t numbers[] = {UINT32_MAX - 1, UINT32_MAX, 1};
+    draws_give = &drawn;
     for (int k = 0; k < 3; k++) {
         ferretgold_cache *cache = NULL;
         ferretgold_client *it = NULL;
@@ -319,10 +325,13 @@ static void first_handles(void) {
         EXPECT(ferretgold_client_open(cache, &it), 0);
         EXPECT(ferretgold_insert_pinned(it, &KEY, "", 0, 1, FERRETGOLD_LOW, NULL, &handle), 0);
         EXPECT(handle.index + handle.serial + handle.client, 0);
+        EXPECT(handle.cache, numbers[k]);
         no_handle(it, zeros);
         EXPECT(ferretgold_client_close_releasing(cache, it), 0);
         EXPECT(ferretgold_close(cache, NULL), 0);
     }
+    EXPECT(draws_met, 1);
+    draws_give = NULL;
 }
 
 /* What a client refuses of values, charges, priorities, slots; outputs that may be null. */

@@ -320,6 +320,7 @@ static void bad_configs(void) {
     for (size_t k = 0; k < 8; k++) {
         ferretgold_object_cache *cache = NULL;
         EXPECT(ferretgold_object_config_check(&all[k]), wanted[k]);
+        EXPECT(ferretgold_object_memory(&all[k]), 0);
         EXPECT(ferretgold_object_open(&all[k], note, NULL, &cache), wanted[k]);
     }
     heap_left = SIZE_MAX;

@@ -122,6 +122,51 @@ exports() {
     done
 }
 
+# The headers as those of another version, by one of its numbers: of_version NUMBER
+of_version() {
+    rm -rf "$folder/include" && cp -r include "$folder/include" \
+        && sed -i -E "s/^(#define FERRETGOLD_VERSION_$1) .*/\1 7/" "$folder/include/ferretgold.h"
+}
+
+# Links a program, and passes where a function isn't there for it: lacks_function NAME WORD..
+lacks_function() {
+    ! "${@:2}" -o "$folder/linked" > "$folder/said" 2>&1 && grep -q "undefined reference to .$1'" "$folder/said"
+}
+
+# A program that was compiled with the header of another MAJOR or MINOR doesn't link, nor does one of which
+# a part was that only makes inline calls: is_tied WORD..
+is_tied() {
+    local numbers it
+    echo '#include "ferretgold.h"
+        int held(ferretgold_client *it, ferretgold_handle handle) { return ferretgold_reref(it, handle, &handle); }' \
+        > "$folder/inline.c"
+    echo '#include "ferretgold_object.h"
+        int main(void) { return ferretgold_object_open(0, ferretgold_object_free_bytes, 0, 0); }' > "$folder/opens.c"
+    for it in MAJOR MINOR; do
+        numbers=$([[ $it == MAJOR ]] && echo 7_1 || echo 0_7)
+        of_version $it || return
+        lacks_function "ferretgold_open_$numbers" \
+            cc -std=c11 "$@" -I"$folder/include" examples/c/two_threads.c "$library" -pthread || return
+        lacks_function "ferretgold_object_open_$numbers" \
+            c++ -std=c++11 "$@" -I"$folder/include" -x c++ "$folder/opens.c" -x none "$library" -pthread || return
+        cc -std=c11 -O2 -I"$folder/include" -c "$folder/inline.c" -o "$folder/inline.o" || return
+        lacks_function "ferretgold_idle_$numbers" \
+            cc -std=c11 -Iinclude examples/c/two_threads.c "$folder/inline.o" "$library" -pthread || return
+    done
+    of_version PATCH && cc -std=c11 "$@" -I"$folder/include" examples/c/two_threads.c "$library" -pthread \
+        -o "$folder/linked" && "$folder/linked"
+}
+
+# Nor does one with the crate of another.
+is_tied_in_rust() {
+    cp -r rust/src "$folder/crate" && sed -i 's/_0_1"\]/_0_7"]/' "$folder/crate/raw.rs" \
+        && rustc --edition 2021 --crate-type rlib --crate-name ferretgold "$folder/crate/lib.rs" --out-dir "$folder" \
+        && lacks_function ferretgold_object_open_0_7 rustc --edition 2021 rust/examples/objects.rs \
+            --extern "ferretgold=$folder/libferretgold.rlib" -C link-arg="$library" \
+        && lacks_function ferretgold_open_0_7 rustc --edition 2021 rust/examples/threads.rs \
+            --extern "ferretgold=$folder/libferretgold.rlib" -C link-arg="$library"
+}
+
 # Fails for a compiler that isn't there.
 lacks() {
     echo "failed: no $1: tests/needs.sh installs it"
@@ -184,6 +229,8 @@ if command -v cc > /dev/null; then
     tries "the header for objects in C99" is_plain cc -std=c99 -x c
     tries "two threads in one client, checked" meets
     tries "each function of the header is a symbol of the library" exports
+    tries "headers of another version, no call inline" is_tied -O0
+    tries "headers of another version" is_tied -O2
     tries "C with memory refused" bears_refusals
     if sanitizes c cc; then
         make -s -C src OUT="$folder/sanitized" SANITIZE=address,undefined || exit 1
@@ -226,6 +273,7 @@ fi
 if command -v rustc > /dev/null; then
     tries "Rust" prints "$in_rust" run-rust
     tries "objects in Rust" objects_in_rust src/out/libferretgold.a
+    library=src/out/libferretgold.a tries "the crate of another version" is_tied_in_rust
     tries "objects in Rust, checked" objects_in_rust src/out/libferretgold_check.a
     if sanitizes c cc; then
         tries "objects in Rust, sanitized" objects_in_rust "$library" -C link-args="-lasan -lubsan"
