@@ -13,7 +13,7 @@
  *     ferretgold_config config;
  *     ferretgold_cache *cache;
  *     ferretgold_client *client;
- *     ferretgold_config_for(64 << 20, 4096, 2, &config);   64 MiB, blocks of 4,096 bytes, 2 threads
+ *     ferretgold_config_for(66 << 20, 4096, 2, &config, NULL);   66 MiB, blocks of 4 KiB, 2 threads
  *     if (ferretgold_open(&config, &cache) != FERRETGOLD_OK) ...
  *     if (ferretgold_client_open(cache, &client) != FERRETGOLD_OK) ...
  *     ... each thread works with a client of its own ...
@@ -216,7 +216,7 @@ typedef struct ferretgold_config {
 /* A configuration to begin with: 4,096 slots with room for 4,096 bytes each (17 MB), not strict,
  * 16 clients. Its seed is drawn. */
 #define FERRETGOLD_CONFIG \
-    {1024, 512, 16, 16, 4, false, false, sizeof(ferretgold_config), 11743232, \
+    {2048, 512, 16, 16, 2, false, false, sizeof(ferretgold_config), 11743232, \
      FERRETGOLD_MOST_SERIALS, 0}
 
 /* A key of 16 bytes. */
@@ -280,18 +280,56 @@ typedef struct ferretgold_client ferretgold_client;
  */
 uint64_t ferretgold_memory(const ferretgold_config *config);
 
+/* What came of a size: what a configuration takes of the bytes that were asked for, and what fits. */
+typedef struct ferretgold_fit {
+    uint64_t bytes;   /* that it takes, as ferretgold_memory says */
+    uint64_t values;  /* bytes of values that fit, each as long as was asked for */
+    uint64_t entries; /* that fit, as its capacity has it */
+    uint64_t more;    /* bytes with which twice as many would fit; 0 if no number of bytes is enough */
+    bool half;        /* whether it takes at least half of what was asked for */
+} ferretgold_fit;
+
 /*
  * Makes a configuration of at most so many bytes of memory, for values of at most `value` bytes and
  * as many threads at work: FERRETGOLD_CONFIG with as many slots as these bytes allow, a power of
- * two; a client for each thread; as many shards, rounded up to a power of two, but at most 64, none
- * of fewer than 1,024 slots beside others, and more where one would have above 65,536; and as
- * capacity 70 of a hundred slots' bytes.
+ * two, and as capacity 70 of a hundred slots' bytes; a client for each thread, with 16 handles, or
+ * fewer where all clients could hold more than a quarter of a shard; as many shards as threads,
+ * rounded up to a power of two, but at most 64, none of fewer than 1,024 slots beside others, and
+ * others where so more slots fit.
+ *
+ * As slots are a power of two, and each takes 56 bytes beside its value, a usual number of bytes may
+ * leave almost half of itself unused, and small or very large ones more: `fit` says so, and what to
+ * ask for instead. It may be null. The guide has a table.
  *
  * Refuses NULL; BAD_ROOM: the value has more than 4,096 bytes; BAD_CLIENTS: threads are 0, or above
  * 1,024; BAD_SLOTS: 8 slots need more bytes.
  */
 ferretgold_status ferretgold_config_for(uint64_t bytes, size_t value, uint32_t threads,
-                                        ferretgold_config *config);
+                                        ferretgold_config *config, ferretgold_fit *fit);
+
+/* What to think over in a configuration, a bit each. */
+typedef enum ferretgold_advice {
+    /* Clients times handles are above a quarter of the entries that a shard may have, 84 for each
+     * hundred slots: held entries may fill it, and insertions are dropped or refused then. */
+    FERRETGOLD_MANY_HANDLES = 1,
+    /* The capacity is above what all of these entries are charged: slots are full before that, and
+     * insertions are dropped or refused, or evict, though the capacity has room. */
+    FERRETGOLD_LARGE_CAPACITY = 2,
+    /* It is below half of that: insertions evict or are refused while most slots are empty. */
+    FERRETGOLD_SMALL_CAPACITY = 4,
+    /* There are several shards of fewer than 1,024 slots: some fill well before others. */
+    FERRETGOLD_SMALL_SHARDS = 8
+} ferretgold_advice;
+
+/*
+ * What to think over in a configuration: the bits of ferretgold_advice in sum, 0 if there is nothing,
+ * or where ferretgold_config_check refuses. The charge of an entry is taken to be 8 * room bytes, as
+ * many as its value may have; or 1, where the capacity is at most one for each slot.
+ */
+uint32_t ferretgold_config_advice(const ferretgold_config *config);
+
+/* One of these bits as a sentence; "unknown" if it is none. */
+const char *ferretgold_advice_text(uint32_t advice);
 
 /*
  * Whether a cache can be opened so, whatever the system gives: refuses what ferretgold_open
@@ -600,6 +638,7 @@ FERRETGOLD_SIZE_IS(ferretgold_handle, 24);
 FERRETGOLD_SIZE_IS(ferretgold_stats, 64);
 FERRETGOLD_SIZE_IS(ferretgold_counts, 48);
 FERRETGOLD_SIZE_IS(ferretgold_totals, 32);
+FERRETGOLD_SIZE_IS(ferretgold_fit, 40);
 #undef FERRETGOLD_SIZE_IS
 
 #ifndef FERRETGOLD_CHECK

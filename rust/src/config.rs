@@ -1,7 +1,7 @@
 //! How large a cache is, and how it behaves.
 
 use crate::refused::judged;
-use crate::{raw, Refused};
+use crate::{raw, Advice, Fit, Refused};
 
 /// The most serials of a client.
 pub const MOST_SERIALS: u64 = 1 << 54;
@@ -52,11 +52,11 @@ pub struct Config {
 impl Default for Config {
     fn default() -> Config {
         Config {
-            slots: 1024,
+            slots: 2048,
             room: 512,
             clients: 16,
             handles: 16,
-            shards: 4,
+            shards: 2,
             strict: false,
             marks: false,
             capacity: 11_743_232,
@@ -70,9 +70,20 @@ impl Config {
     /// One of at most so many bytes of memory, for values of at most `value` bytes and as many threads
     /// at work.
     pub fn sized(bytes: u64, value: usize, threads: u32) -> Result<Config, Refused> {
-        let mut it = raw::Config::default();
-        judged(unsafe { raw::ferretgold_config_for(bytes, value, threads, &mut it) })?;
-        Ok(Config::of(&it))
+        Ok(Config::fitted(bytes, value, threads)?.0)
+    }
+
+    /// The same, and what came of that.
+    pub fn fitted(bytes: u64, value: usize, threads: u32) -> Result<(Config, Fit), Refused> {
+        let (mut it, mut fit) = (raw::Config::default(), Fit::default());
+        judged(unsafe { raw::ferretgold_config_for(bytes, value, threads, &mut it, &mut fit) })?;
+        Ok((Config::of(&it), fit))
+    }
+
+    /// What to think over: nothing also where it is refused. The charge of an entry is taken to be
+    /// 8 * `room` bytes, or 1 where the capacity is at most one for each slot.
+    pub fn advice(&self) -> Vec<Advice> {
+        Advice::each(unsafe { raw::ferretgold_config_advice(&self.raw()) })
     }
 
     /// Whether a cache can be opened so, whatever the system gives.

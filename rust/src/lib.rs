@@ -94,6 +94,7 @@ mod pinned;
 #[allow(missing_docs)]
 mod raw;
 mod refused;
+mod sizes;
 
 use std::ffi::CStr;
 use std::ptr::{null_mut, NonNull};
@@ -113,6 +114,7 @@ pub use owned::{Owned, Rejected};
 pub use pinned::Pinned;
 use refused::judged;
 pub use refused::Refused;
+pub use sizes::{Advice, Fit};
 
 /// A key of 16 bytes.
 #[repr(C)]

@@ -58,7 +58,7 @@ pub struct ObjectHandle {
 
 #[cfg(feature = "file")]
 pub use crate::Loaded;
-pub use crate::{Counts, Entry, Key, Stats, Totals};
+pub use crate::{Counts, Entry, Fit, Key, Stats, Totals};
 
 /// A cache, a client of one, what is left of one that was closed, and what one begins with.
 #[derive(Debug)]
@@ -81,7 +81,10 @@ extern "C" {
         value: usize,
         threads: u32,
         config: *mut Config,
+        fit: *mut Fit,
     ) -> u32;
+    pub fn ferretgold_config_advice(config: *const Config) -> u32;
+    pub fn ferretgold_advice_text(advice: u32) -> *const c_char;
     pub fn ferretgold_config_check(config: *const Config) -> u32;
     pub fn ferretgold_config_of(cache: *const Cache, config: *mut Config) -> u32;
     pub fn ferretgold_value_limit(cache: *const Cache) -> usize;

@@ -1,7 +1,8 @@
 //! Caches that are saved and loaded: by writers and readers of all kinds, also those that fail or panic.
 
 use ferretgold::{
-    Cache, Closed, Config, Entry, FileError, Got, Inserted, Key, Loaded, Priority, Refused, UNSEEDED,
+    Cache, Closed, Config, Entry, FileError, Got, Inserted, Key, Loaded, Priority, Refused,
+    UNSEEDED,
 };
 use std::error::Error;
 use std::io::{self, BufReader, BufWriter, ErrorKind, Read, Write};

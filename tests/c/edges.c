@@ -179,42 +179,6 @@ static void no_copy(void) {
     EXPECT(ferretgold_close(cache, NULL), 0);
 }
 
-/* Configurations from a budget: slots, room, clients, shards, capacity. */
-static void budgets(void) {
-    static const struct {
-        uint64_t bytes;
-        uint32_t value, threads, slots, room, shards;
-        uint64_t capacity;
-    } all[] = {
-        {UINT64_C(1) << 30, 4096, 32, 4096, 512, 32, UINT64_C(91750) * 4096},
-        {1 << 20, 15, 4, 2048, 2, 4, 5734 * 16},
-        {1 << 20, 16, 1, 8192, 2, 1, 5734 * 16},
-        {100000, 8, 7, 1024, 1, 1, 716 * 8},
-        {160000, 8, 8, 1024, 1, 2, 1433 * 8},
-        {3872, 0, 1, 8, 1, 1, 5 * 8},
-        {UINT64_MAX, 4096, 1, 65536, 512, 64, UINT64_C(2936012) * 4096}};
-    ferretgold_config it = SMALL;
-    for (size_t k = 0; k < sizeof all / sizeof *all; k++) {
-        EXPECT(ferretgold_config_for(all[k].bytes, all[k].value, all[k].threads, &it), 0);
-        EXPECT(it.slots, all[k].slots);
-        EXPECT(it.room, all[k].room);
-        EXPECT(it.shards, all[k].shards);
-        EXPECT(it.clients, all[k].threads);
-        EXPECT(it.capacity, all[k].capacity);
-        EXPECT(ferretgold_memory(&it) <= all[k].bytes, true);
-        EXPECT(it.seed == 0 && it.serials == FERRETGOLD_MOST_SERIALS && it.handles == 16, true);
-    }
-    it = SMALL;
-    EXPECT(ferretgold_config_for(1 << 20, 8, 1, NULL), 16);
-    EXPECT(ferretgold_config_for(1 << 20, 4097, 1, &it), 30);
-    EXPECT(ferretgold_config_for(1 << 20, 8, 0, &it), 31);
-    EXPECT(ferretgold_config_for(1 << 20, 8, 1025, &it), 31);
-    EXPECT(ferretgold_config_for(3871, 8, 1, &it), 29);
-    EXPECT(it.slots == SMALL.slots && it.room == SMALL.room && it.seed == SMALL.seed, true);
-    EXPECT(ferretgold_config_for(UINT64_MAX, 4096, 1024, &it), 0);
-    EXPECT(it.shards == 64 && it.clients == 1024, true);
-}
-
 /* The configuration to begin with is one that a cache can have. */
 static void initialiser(void) {
     const ferretgold_config config = FERRETGOLD_CONFIG;
@@ -222,6 +186,7 @@ static void initialiser(void) {
     EXPECT(ferretgold_open(&config, &cache), 0);
     EXPECT(ferretgold_close(cache, NULL), 0);
     EXPECT(config.seed, 0);
+    EXPECT(ferretgold_config_advice(&config), 0);
     EXPECT(config.capacity, config.slots * config.shards * UINT64_C(7) / 10 * config.room * 8);
 }
 
@@ -592,7 +557,6 @@ void edges(void) {
     no_memory(8);
     no_memory(65536);
     no_copy();
-    budgets();
     initialiser();
     counted();
     EXPECT(ferretgold_open(&SMALL, &cache), 0);

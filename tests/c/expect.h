@@ -26,4 +26,7 @@ void edges(void);
 /* Seeds, and what is drawn. */
 void seeds(void);
 
+/* Configurations for so much memory, and what to think over in one. */
+void budgets(void);
+
 #endif

@@ -41,7 +41,7 @@ HEADERS = ["include/ferretgold_raw.h", "include/ferretgold_closed.h", "include/f
            "include/ferretgold_file.h", "include/ferretgold_image.h",
            "src/closed.h", "src/heap.h", "src/limits.h", "src/object.h", "src/opening.h"]
 CHANCE = "by chance: "
-PLAYS = [f"tests/c/{it}.c" for it in ("play", "edges", "seeds", "closed", "image")]
+PLAYS = [f"tests/c/{it}.c" for it in ("play", "edges", "seeds", "budgets", "closed", "image")]
 CPP = ["tests/c/play.cpp", "tests/c/closed.cpp"]
 STREAMS = ["tests/c/file.cpp"]
 HANDED = [f"tests/c/object{it}.c" for it in ("", "_bytes", "_seeds", "_threads")]

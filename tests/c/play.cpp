@@ -537,6 +537,15 @@ void sizes() {
     EXPECT(ferretgold::config_for(1 << 20, 64, 3).slots == config.slots);
     EXPECT(refuses([&] { (void)ferretgold::config_for(1 << 20, 64, 0); }, 31));
     EXPECT(ferretgold::memory(config) == ferretgold_memory(&config));
+    ferretgold_fit fit{}, more{};
+    EXPECT(ferretgold::config_for(1 << 20, 64, 3, why, &fit).slots == config.slots);
+    EXPECT(fit.bytes == ferretgold::memory(config) && fit.half && fit.values == 64 * fit.entries);
+    (void)ferretgold::config_for(fit.more, 64, 3, &more);
+    EXPECT(more.entries / 2 == fit.entries);
+    ferretgold_config many = config;
+    many.handles = many.slots;
+    EXPECT(ferretgold::advice(config) == 0 && ferretgold::advice(many) == FERRETGOLD_MANY_HANDLES);
+    EXPECT(ferretgold::advice_text(FERRETGOLD_MANY_HANDLES) != std::string("unknown"));
     EXPECT(ferretgold::version() == std::string(FERRETGOLD_VERSION));
 }
 

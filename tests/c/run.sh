@@ -122,6 +122,16 @@ exports() {
     done
 }
 
+# The guide's table of budgets is as the library has it.
+is_in_guide() {
+    local row
+    builds cc -std=c11 tests/c/budget_rows.c "$library" && "$folder/built" > "$folder/rows" || return
+    [[ $(wc -l < "$folder/rows") == 4 ]] || return
+    while read -r row; do
+        grep -qxF "$row" docs/GUIDE.md || { echo "the guide has no row $row"; return 1; }
+    done < "$folder/rows"
+}
+
 # The headers as those of another version, by one of its numbers: of_version NUMBER
 of_version() {
     rm -rf "$folder/include" && cp -r include "$folder/include" \
@@ -208,7 +218,7 @@ in_rust='40000 squares are right, and the books agree with the slots
 
 wrap=-Wl,--wrap=malloc,--wrap=realloc,--wrap=aligned_alloc,--wrap=free,--wrap=getrandom
 library=src/out/libferretgold.a
-traces=(tests/c/{play,edges,seeds,closed,image}.c)
+traces=(tests/c/{play,edges,seeds,budgets,closed,image}.c)
 met='ferretgold: two threads use client 0 at once: ferretgold_usage and ferretgold_insert_pinned'
 
 if command -v cc > /dev/null; then
@@ -229,6 +239,7 @@ if command -v cc > /dev/null; then
     tries "the header for objects in C99" is_plain cc -std=c99 -x c
     tries "two threads in one client, checked" meets
     tries "each function of the header is a symbol of the library" exports
+    tries "the guide's table of budgets" is_in_guide
     tries "headers of another version, no call inline" is_tied -O0
     tries "headers of another version" is_tied -O2
     tries "C with memory refused" bears_refusals

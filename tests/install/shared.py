@@ -63,8 +63,8 @@ def called():
     assert version_of(HEADER) == (version, version), version_of(HEADER)
     config, cache, client = Config(), c_void_p(), c_void_p()
     length, inserted, totals, key = c_size_t(), c_uint32(9), Totals(), Key(1, 2)
-    it.ferretgold_config_for.argtypes = [c_uint64, c_size_t, c_uint32, POINTER(Config)]
-    assert it.ferretgold_config_for(1 << 20, 64, 2, byref(config)) == 0
+    it.ferretgold_config_for.argtypes = [c_uint64, c_size_t, c_uint32, POINTER(Config), c_void_p]
+    assert it.ferretgold_config_for(1 << 20, 64, 2, byref(config), None) == 0
     assert config.size == ctypes.sizeof(Config) == 48 and config.clients == 2
     config.size = 56
     assert it.ferretgold_open(byref(config), byref(cache)) == BAD_SIZE
@@ -87,7 +87,7 @@ def called():
 def opened(library):
     """A cache, a client of it, and a handle on an entry of it."""
     config, cache, client, handle = Config(), c_void_p(), c_void_p(), Handle()
-    assert library.ferretgold_config_for(c_uint64(1 << 20), c_size_t(8), c_uint32(1), byref(config)) == 0
+    assert library.ferretgold_config_for(c_uint64(1 << 20), c_size_t(8), c_uint32(1), byref(config), None) == 0
     assert library.ferretgold_open(byref(config), byref(cache)) == 0
     assert library.ferretgold_client_open(cache, byref(client)) == 0
     words = [client, byref(Key(1, 2)), b"a", c_size_t(1), c_uint32(1), c_uint32(1), None, byref(handle)]

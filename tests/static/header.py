@@ -17,7 +17,7 @@ RUST = TOP / "rust/src"
 PLAIN = {"uint16_t": "u16", "uint32_t": "u32", "uint64_t": "u64", "size_t": "usize", "bool": "bool",
          "void": "c_void", "char": "c_char", "ferretgold_status": "u32", "ferretgold_priority": "u32",
          "ferretgold_inserted": "u32", "ferretgold_file_status": "u32"}
-FIELDS = ("config", "handle", "key", "stats", "counts", "totals", "entry", "loaded", "object_config",
+FIELDS = ("config", "handle", "key", "stats", "counts", "totals", "fit", "entry", "loaded", "object_config",
           "object_handle")
 HEADERS = tuple(TOP / f"include/ferretgold{it}.h" for it in ("", "_closed", "_image", "_file", "_object"))
 IN_CPP = {"ferretgold.hpp": HEADERS[:3], "ferretgold_file.hpp": HEADERS[3:4],
