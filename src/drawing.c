@@ -4,7 +4,7 @@
 #include <stdatomic.h>
 #include <sys/random.h>
 
-/* Draws a number. False where the system has none yet, for which nobody waits. */
+/* Draws a number. False where the system has none yet, for which nobody waits: it stays then. */
 static bool drawn(uint64_t *number) {
     return getrandom(number, sizeof *number, GRND_NONBLOCK) == (ssize_t)sizeof *number;
 }
@@ -32,10 +32,8 @@ static uint64_t first_number(void) {
     static _Atomic(uint64_t) first = 0;
     uint64_t it = atomic_load(&first);
     if (it == 0) {
-        uint64_t fresh = 0;
-        if (!drawn(&fresh)) {
-            fresh = (uintptr_t)&first;
-        }
+        uint64_t fresh = (uintptr_t)&first;
+        (void)drawn(&fresh);
         fresh = fresh % UINT32_MAX + 1;
         it = atomic_compare_exchange_strong(&first, &it, fresh) ? fresh : it;
     }

@@ -57,7 +57,8 @@ static void sizes(void) {
     }
 }
 
-/* With as many bytes as it is told twice as many entries fit, and with one less they don't. */
+/* With as many bytes as it is told twice as many entries fit, and with one less they don't. Of the most
+ * the half is told to the byte. */
 static void told(void) {
     static const struct { uint32_t value, threads; } all[] = {{4096, 64}, {1000, 1}, {64, 8}, {0, 3}};
     for (size_t k = 0; k < sizeof all / sizeof *all; k++) {
@@ -73,6 +74,10 @@ static void told(void) {
             EXPECT(none.entries, fit.entries);
         }
         EXPECT(fit.entries, 2936012);
+        EXPECT(ferretgold_config_for(2 * fit.bytes, value, threads, &it, &none), 0);
+        EXPECT(none.half, true);
+        EXPECT(ferretgold_config_for(2 * fit.bytes + 1, value, threads, &it, &none), 0);
+        EXPECT(none.half, false);
     }
 }
 
@@ -164,7 +169,7 @@ static void harm(void) {
     where = "budgets";
 }
 
-/* Each bit at its bound, in bytes and where entries are charged 1 each; texts. */
+/* Each bit at its bound, in bytes and where entries are charged 1 each. */
 static void bounds(void) {
     static const struct {
         uint32_t slots, room, clients, handles, shards;
@@ -189,8 +194,15 @@ static void bounds(void) {
         EXPECT(ferretgold_config_advice(&it), all[k].advice);
     }
     EXPECT(ferretgold_config_advice(NULL), 0);
+}
+
+static void texts(void) {
+    static const char *const begins[] = {"clients may hold more", "slots are full before",
+                                         "the capacity leaves", "shards of fewer"};
     for (uint32_t bit = 0; bit < 32; bit++) {
-        EXPECT(strcmp(ferretgold_advice_text(UINT32_C(1) << bit), "unknown") == 0, bit > 3);
+        const char *text = ferretgold_advice_text(UINT32_C(1) << bit);
+        const char *wanted = bit < 4 ? begins[bit] : "unknown";
+        EXPECT(strncmp(text, wanted, strlen(wanted)), 0);
     }
     EXPECT(strcmp(ferretgold_advice_text(0), "unknown"), 0);
 }
@@ -202,4 +214,5 @@ void budgets(void) {
     refused();
     harm();
     bounds();
+    texts();
 }
