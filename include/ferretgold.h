@@ -13,7 +13,7 @@
  *     ferretgold_config config;
  *     ferretgold_cache *cache;
  *     ferretgold_client *client;
- *     ferretgold_config_for(64 << 20, 4096, 2, &config);   64 MiB, blocks of 4,096 bytes, 2 threads
+ *     ferretgold_config_for(66 << 20, 4096, 2, &config, NULL);   66 MiB, blocks of 4 KiB, 2 threads
  *     if (ferretgold_open(&config, &cache) != FERRETGOLD_OK) ...
  *     if (ferretgold_client_open(cache, &client) != FERRETGOLD_OK) ...
  *     ... each thread works with a client of its own ...
@@ -38,7 +38,9 @@
  *   A handle is a reference on an entry: while it is held, the entry keeps its key and its value.
  *   It is a small value, copied freely. One that was released, or that another client or another
  *   cache gave, is refused by FERRETGOLD_NO_HANDLE, and stays so: no serial of a client comes
- *   twice, nor does a cache's number, of 2^32, in one process.
+ *   twice, nor does a cache's number, of 2^32 - 1. If a process has two copies of the library, one
+ *   in a plugin, say, each numbers its caches from a drawn number on: where both open n caches, two
+ *   of these have one number by a chance of 2n of 2^32.
  *
  * REFUSALS
  *   A call that returns FERRETGOLD_OK did what it says. A call that refuses changed nothing: no
@@ -69,6 +71,9 @@
  *     has these numbers. Functions keep their parameters, structs their layout, enumerators their
  *     numbers, and the library takes each size that ferretgold_config had. Calls that fill one fill
  *     the 48 bytes that it has now.
+ *   A program that was compiled with the header of another MAJOR.MINOR doesn't link: what opens a
+ *   cache is linked by a name that has these numbers, from the Rust crate too, and inline calls use
+ *   one. A binding that asks for ferretgold_open by its plain name gets it.
  *   A PATCH changes neither. libferretgold.so exports the functions of this header, of _closed.h,
  *   _image.h and _object.h, and of ferretgold_raw.h those that ferretgold_inline.h calls.
  */
@@ -80,6 +85,17 @@
 #define FERRETGOLD_VERSION_MINOR 1
 #define FERRETGOLD_VERSION_PATCH 0
 #define FERRETGOLD_VERSION "0.1.0"
+
+/* A name that has these numbers in it: name_MAJOR_MINOR. */
+#define FERRETGOLD_OF_VERSION(name) \
+    FERRETGOLD_NUMBERED(name, FERRETGOLD_VERSION_MAJOR, FERRETGOLD_VERSION_MINOR)
+#define FERRETGOLD_NUMBERED(name, major, minor) FERRETGOLD_JOINED(name, major, minor)
+#define FERRETGOLD_JOINED(name, major, minor) name##_##major##_##minor
+
+/* How a function is linked: by such a name, which only a library of this version has. */
+#define FERRETGOLD_LINKED(name) __asm__(FERRETGOLD_TEXT(FERRETGOLD_OF_VERSION(name)))
+#define FERRETGOLD_TEXT(name) FERRETGOLD_QUOTED(name)
+#define FERRETGOLD_QUOTED(name) #name
 
 #include <stdbool.h>
 #include <stddef.h>
@@ -149,7 +165,9 @@ typedef enum ferretgold_status {
     /* Clients of the cache are out. */
     FERRETGOLD_CLIENTS_OUT = 39,
     /* The configuration has a size that this library doesn't know. */
-    FERRETGOLD_BAD_SIZE = 40
+    FERRETGOLD_BAD_SIZE = 40,
+    /* The system has no number to draw for a seed yet, as early at its start. */
+    FERRETGOLD_NO_SEED = 45
 } ferretgold_status;
 
 /* How many visits of the clock a new entry that nobody looks up survives: 3, 2 or 1. */
@@ -172,6 +190,9 @@ typedef enum ferretgold_inserted {
 /* The most serials of a client: 2^54. */
 #define FERRETGOLD_MOST_SERIALS UINT64_C(0x40000000000000)
 
+/* In place of a seed: keys stay as they are. */
+#define FERRETGOLD_UNSEEDED UINT64_MAX
+
 /* How large a cache is, and how it behaves. */
 typedef struct ferretgold_config {
     uint32_t slots;    /* of each shard: a power of two, 8 to 65,536 */
@@ -187,15 +208,16 @@ typedef struct ferretgold_config {
     uint64_t capacity; /* in charges, at most 2^40; each shard has an equal part, rounded up */
     uint64_t serials;  /* of each client: 1 to 2^54; an insertion uses one, and so does a handle
                           that ferretgold_lookup or ferretgold_reref gives */
-    uint64_t seed;     /* of the keys; 0 only if keys are spread already, as hashes are: keys of
-                          blocks, say, are found five to twenty times slower without one */
+    uint64_t seed;     /* of the keys; 0: opening draws one, so that nobody knows it.
+                          FERRETGOLD_UNSEEDED only if keys are spread already, as hashes are: keys
+                          of blocks, say, are found five to twenty times slower so */
 } ferretgold_config;
 
 /* A configuration to begin with: 4,096 slots with room for 4,096 bytes each (17 MB), not strict,
- * 16 clients. Its seed is known to whoever reads this: draw one if others choose the keys. */
+ * 16 clients. Its seed is drawn. */
 #define FERRETGOLD_CONFIG \
-    {1024, 512, 16, 16, 4, false, false, sizeof(ferretgold_config), 11743232, \
-     FERRETGOLD_MOST_SERIALS, UINT64_C(0x9e3779b97f4a7c15)}
+    {2048, 512, 16, 16, 2, false, false, sizeof(ferretgold_config), 11743232, \
+     FERRETGOLD_MOST_SERIALS, 0}
 
 /* A key of 16 bytes. */
 typedef struct ferretgold_key {
@@ -254,26 +276,64 @@ typedef struct ferretgold_client ferretgold_client;
  *     + 64 * (clients / 64, rounded up) + 560
  * A shard's table, slots * 8 * (7 + room) + 96 of these, is rounded up to whole pages of 2 MiB from
  * 4 MiB on: it begins at one, and lies on such pages where the system gives them. ferretgold_open
- * needs one shard's table more for a while. 0 if `config` is null.
+ * needs one shard's table more for a while. 0 where ferretgold_config_check refuses.
  */
 uint64_t ferretgold_memory(const ferretgold_config *config);
+
+/* What came of a size: what a configuration takes of the bytes that were asked for, and what fits. */
+typedef struct ferretgold_fit {
+    uint64_t bytes;   /* that it takes, as ferretgold_memory says */
+    uint64_t values;  /* bytes of values that fit, each as long as was asked for */
+    uint64_t entries; /* that fit, as its capacity has it */
+    uint64_t more;    /* bytes with which twice as many would fit; 0 if no number of bytes is enough */
+    bool half;        /* whether it takes at least half of what was asked for */
+} ferretgold_fit;
 
 /*
  * Makes a configuration of at most so many bytes of memory, for values of at most `value` bytes and
  * as many threads at work: FERRETGOLD_CONFIG with as many slots as these bytes allow, a power of
- * two; a client for each thread; as many shards, rounded up to a power of two, but at most 64, none
- * of fewer than 1,024 slots beside others, and more where one would have above 65,536; and as
- * capacity 70 of a hundred slots' bytes.
+ * two, and as capacity 70 of a hundred slots' bytes; a client for each thread, with 16 handles, or
+ * fewer where all clients could hold more than a quarter of a shard; as many shards as threads,
+ * rounded up to a power of two, but at most 64, none of fewer than 1,024 slots beside others, and
+ * others where so more slots fit.
+ *
+ * As slots are a power of two, and each takes 56 bytes beside its value, a usual number of bytes may
+ * leave almost half of itself unused, and small or very large ones more: `fit` says so, and what to
+ * ask for instead. It may be null. The guide has a table.
  *
  * Refuses NULL; BAD_ROOM: the value has more than 4,096 bytes; BAD_CLIENTS: threads are 0, or above
  * 1,024; BAD_SLOTS: 8 slots need more bytes.
  */
 ferretgold_status ferretgold_config_for(uint64_t bytes, size_t value, uint32_t threads,
-                                        ferretgold_config *config);
+                                        ferretgold_config *config, ferretgold_fit *fit);
+
+/* What to think over in a configuration, a bit each. */
+typedef enum ferretgold_advice {
+    /* Clients times handles are above a quarter of the entries that a shard may have, 84 for each
+     * hundred slots: held entries may fill it, and insertions are dropped or refused then. */
+    FERRETGOLD_MANY_HANDLES = 1,
+    /* The capacity is above what all of these entries are charged: slots are full before that, and
+     * insertions are dropped or refused, or evict, though the capacity has room. */
+    FERRETGOLD_LARGE_CAPACITY = 2,
+    /* It is below half of that: insertions evict or are refused while most slots are empty. */
+    FERRETGOLD_SMALL_CAPACITY = 4,
+    /* There are several shards of fewer than 1,024 slots: some fill well before others. */
+    FERRETGOLD_SMALL_SHARDS = 8
+} ferretgold_advice;
 
 /*
- * Whether a cache can be opened so, whatever memory there is: refuses what ferretgold_open refuses,
- * except OUT_OF_MEMORY.
+ * What to think over in a configuration: the bits of ferretgold_advice in sum, 0 if there is nothing,
+ * or where ferretgold_config_check refuses. The charge of an entry is taken to be 8 * room bytes, as
+ * many as its value may have; or 1, where the capacity is at most one for each slot.
+ */
+uint32_t ferretgold_config_advice(const ferretgold_config *config);
+
+/* One of these bits as a sentence; "unknown" if it is none. */
+const char *ferretgold_advice_text(uint32_t advice);
+
+/*
+ * Whether a cache can be opened so, whatever the system gives: refuses what ferretgold_open
+ * refuses, except NO_SEED and OUT_OF_MEMORY.
  */
 ferretgold_status ferretgold_config_check(const ferretgold_config *config);
 
@@ -282,12 +342,14 @@ ferretgold_status ferretgold_config_check(const ferretgold_config *config);
 /*
  * Opens a cache with no entries, and with all its clients. None is out yet.
  *
- * Allocates the table and all clients (ferretgold_memory). Costs two stores for each word.
+ * Allocates the table and all clients (ferretgold_memory). Costs two stores for each word, and for a
+ * seed that is drawn one call of getrandom, which doesn't wait.
  *
  * Refuses BAD_SIZE, BAD_SLOTS, BAD_ROOM, BAD_CLIENTS, BAD_HANDLES, BAD_SHARDS, BAD_CAPACITY,
- * BAD_SERIALS, then OUT_OF_MEMORY. Nothing remains then.
+ * BAD_SERIALS, then NO_SEED, if one is to be drawn, then OUT_OF_MEMORY. Nothing remains then.
  */
-ferretgold_status ferretgold_open(const ferretgold_config *config, ferretgold_cache **cache);
+ferretgold_status ferretgold_open(const ferretgold_config *config, ferretgold_cache **cache)
+    FERRETGOLD_LINKED(ferretgold_open);
 
 /*
  * Gives out an idle client. It holds no handle, and has the serials left that it had, and its
@@ -331,7 +393,8 @@ ferretgold_status ferretgold_client_close_releasing(ferretgold_cache *cache,
  */
 ferretgold_status ferretgold_close(ferretgold_cache *cache, ferretgold_totals *totals);
 
-/* The configuration that a cache was opened with. */
+/* The configuration that a cache was opened with, and in it the seed that was drawn: a cache that is
+ * opened with this has each key at the same slots. */
 ferretgold_status ferretgold_config_of(const ferretgold_cache *cache, ferretgold_config *config);
 
 /* The most bytes of a value: 8 * room. 0 if `cache` is null. */
@@ -575,6 +638,7 @@ FERRETGOLD_SIZE_IS(ferretgold_handle, 24);
 FERRETGOLD_SIZE_IS(ferretgold_stats, 64);
 FERRETGOLD_SIZE_IS(ferretgold_counts, 48);
 FERRETGOLD_SIZE_IS(ferretgold_totals, 32);
+FERRETGOLD_SIZE_IS(ferretgold_fit, 40);
 #undef FERRETGOLD_SIZE_IS
 
 #ifndef FERRETGOLD_CHECK

@@ -49,25 +49,33 @@ template <typename Call> auto must(Call call) {
 // The version of the library.
 inline const char *version() noexcept { return ferretgold_version(); }
 
-// How many bytes a cache of this configuration allocates.
+// How many bytes a cache of this configuration allocates; 0 where it is refused.
 inline std::uint64_t memory(const ferretgold_config &config) noexcept {
     return ferretgold_memory(&config);
 }
 
-// A configuration of at most so many bytes, for values of at most so many and as many threads.
+// A configuration of at most so many bytes, for values of at most so many and as many threads; `fit`
+// gets what came of that, and may be null.
 inline ferretgold_config config_for(std::uint64_t bytes, std::size_t value, std::uint32_t threads,
-                                    ferretgold_status &why) noexcept {
+                                    ferretgold_status &why,
+                                    ferretgold_fit *fit = nullptr) noexcept {
     ferretgold_config config{};
-    why = ferretgold_config_for(bytes, value, threads, &config);
+    why = ferretgold_config_for(bytes, value, threads, &config, fit);
     return config;
 }
 
 #ifdef __cpp_exceptions
-inline ferretgold_config config_for(std::uint64_t bytes, std::size_t value,
-                                    std::uint32_t threads) {
-    return must([&](auto &why) { return config_for(bytes, value, threads, why); });
+inline ferretgold_config config_for(std::uint64_t bytes, std::size_t value, std::uint32_t threads,
+                                    ferretgold_fit *fit = nullptr) {
+    return must([&](auto &why) { return config_for(bytes, value, threads, why, fit); });
 }
 #endif
+
+// What to think over in a configuration: bits of ferretgold_advice; and one of them as a sentence.
+inline std::uint32_t advice(const ferretgold_config &config) noexcept {
+    return ferretgold_config_advice(&config);
+}
+inline const char *advice_text(std::uint32_t bit) noexcept { return ferretgold_advice_text(bit); }
 
 // With which status opening a cache of this configuration refuses it, whatever memory there is; else OK.
 inline ferretgold_status check(const ferretgold_config &config) noexcept {

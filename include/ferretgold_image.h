@@ -67,7 +67,8 @@ void ferretgold_image_free(ferretgold_image *image);
  * Refuses what ferretgold_open refuses. Nothing remains then, the image neither.
  */
 ferretgold_status ferretgold_reopen(const ferretgold_config *config, ferretgold_image *image,
-                                    ferretgold_cache **cache, size_t *left_out);
+                                    ferretgold_cache **cache, size_t *left_out)
+    FERRETGOLD_LINKED(ferretgold_reopen);
 
 #ifdef __cplusplus
 }

@@ -56,7 +56,7 @@ FERRETGOLD_INLINE ferretgold_status ferretgold_lookup(ferretgold_client *client,
         return FERRETGOLD_NULL;
     }
     if (!ferretgold_enter(client, __func__)) {
-        return FERRETGOLD_NO_CLIENT;
+        return FERRETGOLD_OF_VERSION(ferretgold_idle)();
     }
     return ferretgold_leave(client, ferretgold_raw_lookup(&client->session, key, handle));
 }
@@ -68,7 +68,7 @@ FERRETGOLD_INLINE ferretgold_status ferretgold_reref(ferretgold_client *client,
         return FERRETGOLD_NULL;
     }
     if (!ferretgold_enter(client, __func__)) {
-        return FERRETGOLD_NO_CLIENT;
+        return FERRETGOLD_OF_VERSION(ferretgold_idle)();
     }
     return ferretgold_leave(client, ferretgold_raw_reref(&client->session, &handle, more));
 }
@@ -81,7 +81,7 @@ FERRETGOLD_INLINE ferretgold_status ferretgold_release(ferretgold_client *client
         return FERRETGOLD_NULL;
     }
     if (!ferretgold_enter(client, __func__)) {
-        return FERRETGOLD_NO_CLIENT;
+        return FERRETGOLD_OF_VERSION(ferretgold_idle)();
     }
     const uint32_t status =
         ferretgold_raw_release(&client->session, &handle, useful, erase_if_last, &answer);
@@ -115,7 +115,7 @@ FERRETGOLD_INLINE ferretgold_status ferretgold_insert(ferretgold_client *client,
         return FERRETGOLD_NULL;
     }
     if (!ferretgold_enter(client, __func__)) {
-        return FERRETGOLD_NO_CLIENT;
+        return FERRETGOLD_OF_VERSION(ferretgold_idle)();
     }
     const uint32_t status =
         ferretgold_raw_insert(&client->session, key, FERRETGOLD_AS(const uint8_t *, bytes), length,
@@ -136,7 +136,7 @@ FERRETGOLD_INLINE ferretgold_status ferretgold_insert_pinned(
         return FERRETGOLD_NULL;
     }
     if (!ferretgold_enter(client, __func__)) {
-        return FERRETGOLD_NO_CLIENT;
+        return FERRETGOLD_OF_VERSION(ferretgold_idle)();
     }
     const uint32_t status = ferretgold_raw_insert_pinned(
         &client->session, key, FERRETGOLD_AS(const uint8_t *, bytes), length, charge,
@@ -156,7 +156,7 @@ FERRETGOLD_INLINE ferretgold_status ferretgold_handle_key(ferretgold_client *cli
         return FERRETGOLD_NULL;
     }
     if (!ferretgold_enter(client, __func__)) {
-        return FERRETGOLD_NO_CLIENT;
+        return FERRETGOLD_OF_VERSION(ferretgold_idle)();
     }
     return ferretgold_leave(client, ferretgold_raw_key(&client->session, &handle, key));
 }
@@ -167,7 +167,7 @@ FERRETGOLD_INLINE ferretgold_status ferretgold_value_len(ferretgold_client *clie
         return FERRETGOLD_NULL;
     }
     if (!ferretgold_enter(client, __func__)) {
-        return FERRETGOLD_NO_CLIENT;
+        return FERRETGOLD_OF_VERSION(ferretgold_idle)();
     }
     return ferretgold_leave(client, ferretgold_raw_value_len(&client->session, &handle, length));
 }
@@ -181,7 +181,7 @@ FERRETGOLD_INLINE ferretgold_status ferretgold_read_value(ferretgold_client *cli
         return FERRETGOLD_NULL;
     }
     if (!ferretgold_enter(client, __func__)) {
-        return FERRETGOLD_NO_CLIENT;
+        return FERRETGOLD_OF_VERSION(ferretgold_idle)();
     }
     return ferretgold_leave(
         client, ferretgold_raw_read_value(&client->session, &handle,
@@ -198,7 +198,7 @@ FERRETGOLD_INLINE ferretgold_status ferretgold_get(ferretgold_client *client,
         return FERRETGOLD_NULL;
     }
     if (!ferretgold_enter(client, __func__)) {
-        return FERRETGOLD_NO_CLIENT;
+        return FERRETGOLD_OF_VERSION(ferretgold_idle)();
     }
     return ferretgold_leave(
         client, ferretgold_raw_get(&client->session, key, FERRETGOLD_AS(uint8_t *, bytes), capacity,

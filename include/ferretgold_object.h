@@ -110,15 +110,15 @@ typedef struct ferretgold_object_config {
     uint16_t size;     /* of this struct in bytes, as FERRETGOLD_OBJECT_CONFIG has it; 0 is 48 */
     uint64_t capacity; /* in charges, at most 2^40; each shard has an equal part, rounded up */
     uint64_t serials;  /* of each client: 1 to 2^54; each try to insert and each handle uses one */
-    uint64_t seed;     /* of the keys; 0 only if keys are spread already, as hashes are */
+    uint64_t seed;     /* of the keys; 0: opening draws one; FERRETGOLD_UNSEEDED: keys stay as they
+                          are, only if they are spread already, as hashes are */
 } ferretgold_object_config;
 
 /* A configuration to begin with: 16,384 slots, not strict, 64 clients, and as capacity 11,468
- * entries of charge 4,096. Its seed is known to whoever reads this: draw one if others choose the
- * keys. */
+ * entries of charge 4,096. Its seed is drawn. */
 #define FERRETGOLD_OBJECT_CONFIG \
     {4096, 64, 256, 256, 4, false, false, sizeof(ferretgold_object_config), 46972928, \
-     FERRETGOLD_MOST_SERIALS, UINT64_C(0x9e3779b97f4a7c15)}
+     FERRETGOLD_MOST_SERIALS, 0}
 
 /* What a handle shows, until it is given back: read only. */
 typedef struct ferretgold_object_handle {
@@ -141,30 +141,32 @@ typedef struct ferretgold_object_cache ferretgold_object_cache;
  * How many bytes a cache of this configuration allocates:
  *     shards * (272 + slots * 64) + 6448
  *     + clients * (1064 + 72 * shards + 192 * handles + 24 * gone)
- * A shard's table is rounded up as ferretgold_memory says. The checking library takes more. 0 if
- * `config` is null.
+ * A shard's table is rounded up as ferretgold_memory says. The checking library takes more. 0 where
+ * ferretgold_object_config_check refuses.
  */
 uint64_t ferretgold_object_memory(const ferretgold_object_config *config);
 
 /*
- * Whether a cache can be opened so, whatever memory there is: refuses what ferretgold_object_open
- * refuses, except OUT_OF_MEMORY.
+ * Whether a cache can be opened so, whatever the system gives: refuses what ferretgold_object_open
+ * refuses, except NO_SEED and OUT_OF_MEMORY.
  */
 ferretgold_status ferretgold_object_config_check(const ferretgold_object_config *config);
 
 /*
  * Opens a cache with no entries. Its deleter gets `context`, which may be null.
  *
- * Allocates all that the cache will need (ferretgold_object_memory).
+ * Allocates all that the cache will need (ferretgold_object_memory). Draws a seed as ferretgold_open
+ * does.
  *
  * Refuses BAD_SIZE, BAD_SLOTS, BAD_CLIENTS, BAD_HANDLES, BAD_SHARDS, BAD_CAPACITY, BAD_SERIALS,
- * BAD_GONE, then OUT_OF_MEMORY. Nothing remains then.
+ * BAD_GONE, then NO_SEED, if one is to be drawn, then OUT_OF_MEMORY. Nothing remains then.
  */
 ferretgold_status ferretgold_object_open(const ferretgold_object_config *config,
                                          ferretgold_deleter deleter, void *context,
-                                         ferretgold_object_cache **cache);
+                                         ferretgold_object_cache **cache)
+    FERRETGOLD_LINKED(ferretgold_object_open);
 
-/* The configuration that a cache was opened with. */
+/* The configuration that a cache was opened with, and in it the seed that was drawn. */
 ferretgold_status ferretgold_object_config_of(const ferretgold_object_cache *cache,
                                               ferretgold_object_config *config);
 

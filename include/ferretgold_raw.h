@@ -24,6 +24,9 @@ typedef struct ferretgold_object {
 
 struct ferretgold_entry; /* of ferretgold_closed.h */
 
+/* What an inline call returns for a client that is idle: NO_CLIENT. Only a library of the header's
+ * version has this function. */
+ferretgold_status FERRETGOLD_OF_VERSION(ferretgold_idle)(void);
 /* None of these pointers is null, even if a length is 0. */
 uint32_t ferretgold_raw_config_check(const ferretgold_config *config);
 /* No two caches that are open have one number, which their handles have too. A cache gives all its

@@ -1,6 +1,6 @@
 /* What the calls of ferretgold.h do round the proved library, which ferretgold_raw.h declares: they
- * look for null pointers, number the caches, and give out and take back clients. What of it is inline
- * stands in ferretgold_inline.h. It is tested, not proved.
+ * look for null pointers, and give out and take back clients. What of it is inline stands in
+ * ferretgold_inline.h. It is tested, not proved.
  *
  * With FERRETGOLD_CHECK each call on a client looks whether another thread is in a call on it, and
  * ends the program then. */
@@ -13,6 +13,7 @@
 #include "closed.h"
 #include "opening.h"
 
+#include <pthread.h>
 #include <stdatomic.h>
 #include <stdlib.h>
 #include <string.h>
@@ -25,6 +26,10 @@ static void ferretgold_quit(ferretgold_client *client);
 #endif
 
 enum { LINE = 64, BITS = 64 };
+
+ferretgold_status FERRETGOLD_OF_VERSION(ferretgold_idle)(void) {
+    return FERRETGOLD_NO_CLIENT;
+}
 
 /* The clients that are idle, 64 in a row: a bit for each, in the one word or in the other. */
 typedef struct ferretgold_row {
@@ -94,20 +99,26 @@ static uint32_t rows_for(uint32_t clients) {
     return (clients + BITS - 1) / BITS;
 }
 
-/* Takes a client that is idle: one with serials left if this call found one, beginning where this
- * thread found one last. Its number, or the count of all clients if each word was seen 0. That a
- * thread first comes here allocates nothing, in a library that is loaded late either. */
+/* The client at which this thread begins to look for an idle one, of so many: always the same one, and
+ * for most threads another. A variable of each thread's would cost one that first comes here memory, in
+ * a library that is loaded late, or not let it be loaded so. */
+static uint32_t home(uint32_t clients) {
+    const uint64_t self = (uintptr_t)pthread_self();
+    return (uint32_t)((self * UINT64_C(0x9e3779b97f4a7c15) >> 32) * clients >> 32);
+}
+
+/* Takes a client that is idle: one with serials left if this call found one. Its number, or the count of
+ * all clients if each word was seen 0. */
 static uint32_t take(ferretgold_cache *cache) {
-    static _Thread_local uint32_t last __attribute__((tls_model("initial-exec"))) = 0;
+    const uint32_t first = home(cache->config.clients);
     const uint32_t rows = rows_for(cache->config.clients);
     for (uint32_t spent = 0; spent < 2; spent++) {
         for (uint32_t k = 0; k < rows; k++) {
-            const uint32_t at = (last / BITS + k) % rows;
+            const uint32_t at = (first / BITS + k) % rows;
             ferretgold_row *row = &cache->row[at];
-            const uint32_t place = take_bit(spent ? &row->spent : &row->idle, last % BITS);
+            const uint32_t place = take_bit(spent ? &row->spent : &row->idle, first % BITS);
             if (place < BITS) {
-                last = at * BITS + place;
-                return last;
+                return at * BITS + place;
             }
         }
     }
@@ -210,30 +221,42 @@ ferretgold_status ferretgold_config_check(const ferretgold_config *config) {
                               : FERRETGOLD_BAD_SIZE;
 }
 
-ferretgold_status cache_judge(const ferretgold_config *config, ferretgold_cache **cache) {
-    return cache == NULL ? FERRETGOLD_NULL : ferretgold_config_check(config);
+ferretgold_status cache_judge(const ferretgold_config *config, ferretgold_cache **cache,
+                              ferretgold_config *seeded) {
+    const ferretgold_status status =
+        cache == NULL ? FERRETGOLD_NULL : ferretgold_config_check(config);
+    if (status != FERRETGOLD_OK) {
+        return status;
+    }
+    *seeded = *config;
+    return seed_drawn(&seeded->seed);
 }
 
-uint32_t cache_number(void) {
-    static atomic_uint opened = 0;
-    return atomic_fetch_add(&opened, 1) + 1;
+ferretgold_config cache_proved(const ferretgold_config *seeded) {
+    ferretgold_config proved = *seeded;
+    proved.seed = seed_proved(seeded->seed);
+    return proved;
 }
 
 ferretgold_status ferretgold_open(const ferretgold_config *config, ferretgold_cache **cache) {
-    const ferretgold_status status = cache_judge(config, cache);
+    ferretgold_config seeded;
+    const ferretgold_status status = cache_judge(config, cache, &seeded);
     if (status != FERRETGOLD_OK) {
         return status;
     }
     opened_cache opened = {{NULL}, {{NULL}}};
-    ferretgold_cache *it = cache_made(config);
+    const ferretgold_config proved = cache_proved(&seeded);
+    ferretgold_cache *it = cache_made(&seeded);
     if (it == NULL) {
         return FERRETGOLD_OUT_OF_MEMORY;
     }
     return cache_begin(it,
-                       ferretgold_raw_open(config, cache_number(), opened.client, config->clients,
+                       ferretgold_raw_open(&proved, cache_number(), opened.client, proved.clients,
                                            &opened.cache),
                        &opened, cache);
 }
+
+PLAINLY(ferretgold_open);
 
 ferretgold_status ferretgold_config_of(const ferretgold_cache *cache, ferretgold_config *config) {
     if (cache == NULL || config == NULL) {
@@ -492,6 +515,7 @@ const char *ferretgold_status_text(ferretgold_status status) {
     case FERRETGOLD_HANDLES_OUT: return "the client holds handles";
     case FERRETGOLD_CLIENTS_OUT: return "clients of the cache are out";
     case FERRETGOLD_BAD_SIZE: return "the library doesn't know this size of configuration";
+    case FERRETGOLD_NO_SEED: return "the system has no number for a seed yet";
     }
     return object_status_text((uint32_t)status);
 }

@@ -238,8 +238,9 @@ ferretgold_file_status ferretgold_load(const ferretgold_config *config, ferretgo
         ferretgold_image_free(image);
         return status;
     }
-    if (ferretgold_reopen(config, image, cache, &left_out) != FERRETGOLD_OK) {
-        return FERRETGOLD_FILE_MEMORY;
+    const ferretgold_status opened = ferretgold_reopen(config, image, cache, &left_out);
+    if (opened != FERRETGOLD_OK) {
+        return opened == FERRETGOLD_OUT_OF_MEMORY ? FERRETGOLD_FILE_MEMORY : FERRETGOLD_FILE_REFUSED;
     }
     it.lost = left_out;
     it.left = it.entries - it.lost;

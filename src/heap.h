@@ -4,8 +4,8 @@
 
 #include <stdint.h>
 
-/* Behind each block is a cache line that nobody writes, so that no two clients, which different
- * threads write, have a part on the same one. A block of two large pages or more takes whole ones. */
+/* Behind each block but those of bytes is a cache line that nobody writes, so that no two clients, which
+ * different threads write, have a part on the same one. A block of two large pages or more takes whole ones. */
 enum { LINE = 64, LARGE_PAGE = 1 << 21, LARGE_BLOCK = 2 * LARGE_PAGE };
 
 /* How many bytes a block of so many takes, which are less than 2^63. */

@@ -40,19 +40,21 @@ void ferretgold_image_free(ferretgold_image *image) {
 ferretgold_status ferretgold_reopen(const ferretgold_config *config, ferretgold_image *image,
                                     ferretgold_cache **cache, size_t *left_out) {
     opened_cache opened = {{NULL}, {{NULL}}};
+    ferretgold_config seeded;
     size_t count = 0;
     if (image == NULL) {
         return FERRETGOLD_NULL;
     }
-    ferretgold_status status = cache_judge(config, cache);
-    ferretgold_cache *it = status == FERRETGOLD_OK ? cache_made(config) : NULL;
+    ferretgold_status status = cache_judge(config, cache, &seeded);
+    ferretgold_cache *it = status == FERRETGOLD_OK ? cache_made(&seeded) : NULL;
     if (it == NULL) {
         ferretgold_image_free(image);
         return status == FERRETGOLD_OK ? FERRETGOLD_OUT_OF_MEMORY : status;
     }
+    const ferretgold_config proved = cache_proved(&seeded);
     status = cache_begin(it,
-                         ferretgold_raw_reopen(config, cache_number(), list_of(image),
-                                               opened.client, config->clients, &opened.cache,
+                         ferretgold_raw_reopen(&proved, cache_number(), list_of(image),
+                                               opened.client, proved.clients, &opened.cache,
                                                &count),
                          &opened, cache);
     if (status == FERRETGOLD_OK && left_out != NULL) {
@@ -60,3 +62,5 @@ ferretgold_status ferretgold_reopen(const ferretgold_config *config, ferretgold_
     }
     return status;
 }
+
+PLAINLY(ferretgold_reopen);

@@ -25,7 +25,7 @@ static uint64_t own_memory(const ferretgold_object_config *config) {
 }
 
 uint64_t ferretgold_object_memory(const ferretgold_object_config *config) {
-    if (config == NULL) {
+    if (ferretgold_object_config_check(config) != FERRETGOLD_OK) {
         return 0;
     }
     const uint64_t shards = config->shards, clients = config->clients;
@@ -89,11 +89,13 @@ static void spares_begin(ferretgold_object_cache *it) {
 /* The proved cache and its sessions. */
 static uint32_t opened(ferretgold_object_cache *it) {
     ferretgold_object session[MOST_CLIENTS] = {{NULL}};
+    ferretgold_object_config proved = it->config;
+    proved.seed = seed_proved(proved.seed);
     const uint32_t count = it->config.clients;
     uint32_t status = ferretgold_raw_objects_open(&it->left);
     if (status == FERRETGOLD_OK) {
         it->number = cache_number();
-        status = ferretgold_raw_object_open(&it->config, it->number, session, count, &it->cache);
+        status = ferretgold_raw_object_open(&proved, it->number, session, count, &it->cache);
     }
     for (uint32_t number = 0; number < count; number++) {
         it->client[number].session = session[number];
@@ -115,7 +117,12 @@ ferretgold_status ferretgold_object_open(const ferretgold_object_config *config,
     if (status != FERRETGOLD_OK) {
         return (ferretgold_status)status;
     }
-    ferretgold_object_cache *it = made(config);
+    ferretgold_object_config seeded = *config;
+    status = seed_drawn(&seeded.seed);
+    if (status != FERRETGOLD_OK) {
+        return (ferretgold_status)status;
+    }
+    ferretgold_object_cache *it = made(&seeded);
     if (it == NULL) {
         return FERRETGOLD_OUT_OF_MEMORY;
     }
@@ -135,6 +142,8 @@ ferretgold_status ferretgold_object_open(const ferretgold_object_config *config,
     *cache = it;
     return FERRETGOLD_OK;
 }
+
+PLAINLY(ferretgold_object_open);
 
 ferretgold_status ferretgold_object_config_of(const ferretgold_object_cache *cache,
                                               ferretgold_object_config *config) {

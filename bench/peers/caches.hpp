@@ -53,7 +53,7 @@ inline ferretgold_config config_of(const sizes &sizes) {
     config.marks = false;
     config.capacity = sizes.capacity;
     config.serials = FERRETGOLD_MOST_SERIALS;
-    config.seed = sizes.seed;
+    config.seed = sizes.seed != 0 ? sizes.seed : FERRETGOLD_UNSEEDED;
     return config;
 }
 

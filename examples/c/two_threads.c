@@ -79,7 +79,7 @@ static void pin_one(ferretgold_client *client) {
 int main(void) {
     ferretgold_config config = {.slots = 1024, .room = BLOCK / 8, .clients = THREADS,
                                 .handles = 16, .shards = 2, .strict = true, .capacity = 4 << 20,
-                                .serials = FERRETGOLD_MOST_SERIALS, .seed = 0x5eed};
+                                .serials = FERRETGOLD_MOST_SERIALS};
     ferretgold_cache *cache = NULL;
     ferretgold_totals totals = {0, 0, 0, 0};
     pthread_t threads[THREADS];

@@ -87,7 +87,6 @@ int run(const std::string &path) {
     config.strict = true;
     config.capacity = 40 * BLOCK; // less than the file
     config.serials = FERRETGOLD_MOST_SERIALS;
-    config.seed = 0x5eed;
     ferretgold::cache cache(config);
     bool right = true;
     {

@@ -1,10 +1,13 @@
 //! How large a cache is, and how it behaves.
 
 use crate::refused::judged;
-use crate::{raw, Refused};
+use crate::{raw, Advice, Fit, Refused};
 
 /// The most serials of a client.
 pub const MOST_SERIALS: u64 = 1 << 54;
+
+/// In place of a seed: keys stay as they are.
+pub const UNSEEDED: u64 = u64::MAX;
 
 /// How large a cache is, and how it behaves, as `ferretgold_config` of ferretgold.h.
 ///
@@ -16,7 +19,9 @@ pub const MOST_SERIALS: u64 = 1 << 54;
 /// let bad = Config { slots: 65, ..config };
 /// assert_eq!(bad.check(), Err(Refused::BAD_SLOTS));
 /// assert_eq!(Cache::open(&bad).unwrap_err(), Refused::BAD_SLOTS);
-/// assert_eq!(Cache::open(&config)?.config(), config);
+/// let opened = Cache::open(&config)?.config();
+/// assert_ne!(opened.seed, 0); // it was drawn
+/// assert_eq!(opened, Config { seed: opened.seed, ..config });
 /// # Ok::<(), Refused>(())
 /// ```
 #[derive(Clone, Copy, Debug, PartialEq, Eq)]
@@ -39,25 +44,24 @@ pub struct Config {
     pub capacity: u64,
     /// Serials of each client: 1 to 2^54.
     pub serials: u64,
-    /// Of the keys; 0 only if keys are spread already.
+    /// Of the keys; 0: opening draws one. [`UNSEEDED`] only if keys are spread already.
     pub seed: u64,
 }
 
-/// A configuration to begin with, as `FERRETGOLD_CONFIG` of ferretgold.h. Its seed is known to whoever
-/// reads this: draw one if others choose the keys.
+/// A configuration to begin with, as `FERRETGOLD_CONFIG` of ferretgold.h. Its seed is drawn.
 impl Default for Config {
     fn default() -> Config {
         Config {
-            slots: 1024,
+            slots: 2048,
             room: 512,
             clients: 16,
             handles: 16,
-            shards: 4,
+            shards: 2,
             strict: false,
             marks: false,
             capacity: 11_743_232,
             serials: MOST_SERIALS,
-            seed: 0x9e37_79b9_7f4a_7c15,
+            seed: 0,
         }
     }
 }
@@ -66,17 +70,28 @@ impl Config {
     /// One of at most so many bytes of memory, for values of at most `value` bytes and as many threads
     /// at work.
     pub fn sized(bytes: u64, value: usize, threads: u32) -> Result<Config, Refused> {
-        let mut it = raw::Config::default();
-        judged(unsafe { raw::ferretgold_config_for(bytes, value, threads, &mut it) })?;
-        Ok(Config::of(&it))
+        Ok(Config::fitted(bytes, value, threads)?.0)
     }
 
-    /// Whether a cache can be opened so, whatever memory there is.
+    /// The same, and what came of that.
+    pub fn fitted(bytes: u64, value: usize, threads: u32) -> Result<(Config, Fit), Refused> {
+        let (mut it, mut fit) = (raw::Config::default(), Fit::default());
+        judged(unsafe { raw::ferretgold_config_for(bytes, value, threads, &mut it, &mut fit) })?;
+        Ok((Config::of(&it), fit))
+    }
+
+    /// What to think over: nothing also where it is refused. The charge of an entry is taken to be
+    /// 8 * `room` bytes, or 1 where the capacity is at most one for each slot.
+    pub fn advice(&self) -> Vec<Advice> {
+        Advice::each(unsafe { raw::ferretgold_config_advice(&self.raw()) })
+    }
+
+    /// Whether a cache can be opened so, whatever the system gives.
     pub fn check(&self) -> Result<(), Refused> {
         judged(unsafe { raw::ferretgold_config_check(&self.raw()) })
     }
 
-    /// How many bytes a cache of this configuration allocates.
+    /// How many bytes a cache of this configuration allocates; 0 where it is refused.
     pub fn memory(&self) -> u64 {
         unsafe { raw::ferretgold_memory(&self.raw()) }
     }

@@ -94,13 +94,14 @@ mod pinned;
 #[allow(missing_docs)]
 mod raw;
 mod refused;
+mod sizes;
 
 use std::ffi::CStr;
 use std::ptr::{null_mut, NonNull};
 
 pub use client::{Client, Got};
 pub use closed::{Closed, Entry};
-pub use config::{Config, MOST_SERIALS};
+pub use config::{Config, MOST_SERIALS, UNSEEDED};
 #[cfg(feature = "file")]
 pub use file::{FileError, Loaded};
 pub use handle::Handle;
@@ -113,6 +114,7 @@ pub use owned::{Owned, Rejected};
 pub use pinned::Pinned;
 use refused::judged;
 pub use refused::Refused;
+pub use sizes::{Advice, Fit};
 
 /// A key of 16 bytes.
 #[repr(C)]
@@ -226,7 +228,7 @@ impl Cache {
         NonNull::new(at).map(|at| Cache { at }).ok_or(Refused::NULL)
     }
 
-    /// What it was opened with.
+    /// What it was opened with, and in it the seed that was drawn.
     pub fn config(&self) -> Config {
         let mut config = raw::Config::default();
         let _ = unsafe { raw::ferretgold_config_of(self.at.as_ptr(), &mut config) };

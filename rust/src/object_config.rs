@@ -3,8 +3,6 @@
 use crate::config::MOST_SERIALS;
 use crate::refused::judged;
 use crate::{raw, Refused};
-use std::collections::hash_map::RandomState;
-use std::hash::{BuildHasher, Hasher};
 
 /// How large a cache of objects is, and how it behaves, as `ferretgold_object_config` of
 /// ferretgold_object.h.
@@ -37,12 +35,13 @@ pub struct ObjectConfig {
     pub capacity: u64,
     /// Serials of each client: 1 to 2^54.
     pub serials: u64,
-    /// Of the keys; 0 only if keys are spread already.
+    /// Of the keys; 0: opening draws one. [`UNSEEDED`](crate::UNSEEDED) only if keys are spread
+    /// already.
     pub seed: u64,
 }
 
 /// A configuration to begin with, as `FERRETGOLD_OBJECT_CONFIG` of ferretgold_object.h. Its seed is
-/// known to whoever reads this.
+/// drawn.
 impl Default for ObjectConfig {
     fn default() -> ObjectConfig {
         ObjectConfig {
@@ -55,7 +54,7 @@ impl Default for ObjectConfig {
             marks: false,
             capacity: 46_972_928,
             serials: MOST_SERIALS,
-            seed: 0x9e37_79b9_7f4a_7c15,
+            seed: 0,
         }
     }
 }
@@ -72,7 +71,7 @@ const MOST_HANDLES: u64 = 256;
 impl ObjectConfig {
     /// One of this capacity, whose entries usually have this charge: with ten slots or more for
     /// seven of them, up to 4,194,304 slots; for each of 64 clients a handle for 64 slots, at least
-    /// 16 and at most 256; and with a seed that is drawn.
+    /// 16 and at most 256.
     pub fn sized(capacity: u64, charge: u64) -> ObjectConfig {
         let wanted = (capacity / charge.max(1)).saturating_mul(10) / 7;
         let slots = wanted
@@ -86,17 +85,17 @@ impl ObjectConfig {
             shards: shards as u32,
             handles: (slots / 64).clamp(FEWEST_HANDLES, MOST_HANDLES) as u32,
             capacity,
-            seed: RandomState::new().build_hasher().finish() | 1,
             ..ObjectConfig::default()
         }
     }
 
-    /// Whether a cache can be opened so, whatever memory there is.
+    /// Whether a cache can be opened so, whatever the system gives.
     pub fn check(&self) -> Result<(), Refused> {
         judged(unsafe { raw::ferretgold_object_config_check(&self.raw()) })
     }
 
-    /// How many bytes a cache of this configuration allocates, beside what the objects are.
+    /// How many bytes a cache of this configuration allocates, beside what the objects are; 0 where it
+    /// is refused.
     pub fn memory(&self) -> u64 {
         unsafe { raw::ferretgold_object_memory(&self.raw()) }
     }

@@ -79,7 +79,7 @@ impl<V: Send + Sync> Objects<V> {
 }
 
 impl<V> Objects<V> {
-    /// What it was opened with.
+    /// What it was opened with, and in it the seed that was drawn.
     pub fn config(&self) -> ObjectConfig {
         self.home().cache().config()
     }

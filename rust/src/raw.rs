@@ -1,5 +1,5 @@
-//! The functions of ferretgold.h, _closed.h, _image.h, _object.h and _file.h, as C has them.
-//! tests/static/check.py compares the two.
+//! The functions of ferretgold.h, _closed.h, _image.h, _object.h and _file.h, as C has them, also by the
+//! names by which C links them. tests/static/check.py compares the two.
 
 use std::ffi::c_void;
 use std::os::raw::c_char;
@@ -58,7 +58,7 @@ pub struct ObjectHandle {
 
 #[cfg(feature = "file")]
 pub use crate::Loaded;
-pub use crate::{Counts, Entry, Key, Stats, Totals};
+pub use crate::{Counts, Entry, Fit, Key, Stats, Totals};
 
 /// A cache, a client of one, what is left of one that was closed, and what one begins with.
 #[derive(Debug)]
@@ -81,11 +81,15 @@ extern "C" {
         value: usize,
         threads: u32,
         config: *mut Config,
+        fit: *mut Fit,
     ) -> u32;
+    pub fn ferretgold_config_advice(config: *const Config) -> u32;
+    pub fn ferretgold_advice_text(advice: u32) -> *const c_char;
     pub fn ferretgold_config_check(config: *const Config) -> u32;
     pub fn ferretgold_config_of(cache: *const Cache, config: *mut Config) -> u32;
     pub fn ferretgold_value_limit(cache: *const Cache) -> usize;
     pub fn ferretgold_cache_counts(cache: *const Cache, counts: *mut Counts) -> u32;
+    #[link_name = "ferretgold_open_0_1"]
     pub fn ferretgold_open(config: *const Config, cache: *mut *mut Cache) -> u32;
     pub fn ferretgold_client_open(cache: *mut Cache, client: *mut *mut Client) -> u32;
     pub fn ferretgold_client_close(cache: *mut Cache, client: *mut Client) -> u32;
@@ -178,6 +182,7 @@ extern "C" {
         uses: u32,
     ) -> u32;
     pub fn ferretgold_image_free(image: *mut Image);
+    #[link_name = "ferretgold_reopen_0_1"]
     pub fn ferretgold_reopen(
         config: *const Config,
         image: *mut Image,
@@ -210,6 +215,7 @@ pub type Deleter =
 extern "C" {
     pub fn ferretgold_object_memory(config: *const ObjectConfig) -> u64;
     pub fn ferretgold_object_config_check(config: *const ObjectConfig) -> u32;
+    #[link_name = "ferretgold_object_open_0_1"]
     pub fn ferretgold_object_open(
         config: *const ObjectConfig,
         deleter: Deleter,

@@ -46,6 +46,7 @@ statuses! {
     TOO_HIGH = 42: "Of objects: the address is 2^48 or above.";
     BAD_GONE = 43: "The configuration's `gone` is out of range.";
     UNTAKEN = 44: "Objects weren't all taken; no call of this crate is refused so.";
+    NO_SEED = 45: "The system has no number to draw for a seed yet.";
 }
 
 impl fmt::Display for Refused {

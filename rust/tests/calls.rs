@@ -1,7 +1,7 @@
 //! Each call, and what types can't rule out.
 
 use ferretgold::{
-    Cache, Client, Config, Counts, Got, Image, Inserted, Key, Priority, Refused, Stats,
+    Advice, Cache, Client, Config, Counts, Got, Image, Inserted, Key, Priority, Refused, Stats,
 };
 use std::mem::forget;
 
@@ -16,6 +16,7 @@ fn small() -> Config {
         handles: 3,
         shards: 1,
         capacity: 600,
+        seed: 7,
         ..Config::default()
     }
 }
@@ -188,7 +189,38 @@ fn sizes_are_those_of_the_budget() {
     let config = Config::sized(1 << 20, 64, 3).unwrap();
     assert!(config.memory() <= 1 << 20 && 2 * config.memory() > 1 << 20);
     assert_eq!((config.room, config.clients), (8, 3));
+    let (same, fit) = Config::fitted(1 << 20, 64, 3).unwrap();
+    assert_eq!((same, fit.bytes, fit.half), (config, config.memory(), true));
+    let (_, more) = Config::fitted(fit.more, 64, 3).unwrap();
+    assert_eq!(
+        (fit.values, more.entries / 2),
+        (64 * fit.entries, fit.entries)
+    );
     assert_eq!(ferretgold::version(), env!("CARGO_PKG_VERSION"));
+}
+
+#[test]
+fn a_configuration_is_thought_over() {
+    let config = Config::default();
+    assert_eq!(config.advice(), []);
+    let many = Config {
+        handles: 1000,
+        capacity: 1000,
+        ..config
+    };
+    let advice = many.advice();
+    assert_eq!(advice, [Advice::MANY_HANDLES, Advice::SMALL_CAPACITY]);
+    assert_eq!(
+        advice[0].to_string(),
+        "clients may hold more than a quarter of a shard's entries: fewer handles or shards"
+    );
+    let shards = Config {
+        slots: 256,
+        capacity: 1 << 40,
+        ..config
+    };
+    let advice = shards.advice();
+    assert_eq!(advice[1..], [Advice::LARGE_CAPACITY, Advice::SMALL_SHARDS]);
 }
 
 #[test]

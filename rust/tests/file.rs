@@ -2,6 +2,7 @@
 
 use ferretgold::{
     Cache, Closed, Config, Entry, FileError, Got, Inserted, Key, Loaded, Priority, Refused,
+    UNSEEDED,
 };
 use std::error::Error;
 use std::io::{self, BufReader, BufWriter, ErrorKind, Read, Write};
@@ -16,6 +17,7 @@ fn small() -> Config {
         clients: 2,
         shards: 2,
         capacity: 1000,
+        seed: 5,
         ..Config::default()
     }
 }
@@ -71,7 +73,10 @@ fn a_cache_begins_with_what_was_saved() {
     let file = saved();
     let others = [
         small(),
-        Config { seed: 0, ..small() },
+        Config {
+            seed: UNSEEDED,
+            ..small()
+        },
         Config {
             slots: 32,
             shards: 8,

@@ -22,6 +22,7 @@ fn small() -> ObjectConfig {
         shards: 1,
         strict: true,
         capacity: 100,
+        seed: 7,
         ..ObjectConfig::default()
     }
 }

@@ -9,6 +9,7 @@ cd "$(dirname "$0")/../.." || exit 2
 target=aarch64-unknown-linux-gnu
 compiler=aarch64-linux-gnu-gcc
 emulator=(qemu-aarch64 -L /usr/aarch64-linux-gnu)
+wrap=-Wl,--wrap=malloc,--wrap=realloc,--wrap=aligned_alloc,--wrap=free,--wrap=getrandom
 . tests/shared.sh
 
 # Whether programs can be built and run.
@@ -36,8 +37,7 @@ prints() {
 
 # Plays traces of calls: plays LIBRARY WORD..
 plays() {
-    builds tests/c/{play,edges,closed,image,heap}.c "$out/$1" "${@:2}" \
-        -Wl,--wrap=malloc,--wrap=realloc,--wrap=aligned_alloc,--wrap=free \
+    builds tests/c/{play,edges,seeds,budgets,closed,image,heap}.c "$out/$1" "${@:2}" $wrap \
         && runs tests/program/calls tests/c/calls
 }
 
@@ -47,8 +47,7 @@ lends() {
 
 # Makes the calls of ferretgold_object.h.
 objects() {
-    builds tests/c/{object,object_bytes,object_threads,heap}.c $out/libferretgold.a \
-        -Wl,--wrap=malloc,--wrap=realloc,--wrap=aligned_alloc,--wrap=free && runs 100000
+    builds tests/c/{object,object_bytes,object_seeds,object_threads,heap}.c $out/libferretgold.a $wrap && runs 100000
 }
 
 # The checking library ends a program in which two calls meet in one client.

@@ -149,6 +149,7 @@ int closed_caches() {
     ferretgold_config config = ferretgold::config_for(1000000, 4, 1);
     config.slots = 8;
     config.shards = 1;
+    config.seed = 5;
     cache it(config), none;
     {
         ferretgold::client client = it.open_client();

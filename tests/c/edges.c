@@ -32,22 +32,23 @@ static void texts(void) {
         {38, "the client holds handles"}, {39, "clients of the cache are out"},
         {40, "the library doesn't know this size of configuration"},
         {41, "the client's list is full"}, {42, "the object's address is 2^48 or above"},
-        {43, "gone must be 4 to 65,536"}, {44, "objects weren't taken off a list"}, {2, "unknown"},
-        {45, "unknown"}};
+        {43, "gone must be 4 to 65,536"}, {44, "objects weren't taken off a list"},
+        {45, "the system has no number for a seed yet"}, {2, "unknown"}, {46, "unknown"}};
     for (size_t k = 0; k < sizeof all / sizeof *all; k++) {
         EXPECT(strcmp(ferretgold_status_text((ferretgold_status)all[k].status), all[k].text), 0);
     }
     EXPECT(strcmp(ferretgold_version(), FERRETGOLD_VERSION), 0);
 }
 
-/* Each field of a configuration, one below and one above what it may be: no memory is asked for. */
+/* Each field of a configuration, one below and one above what it may be: no memory is asked for, and
+ * no number drawn. */
 static void configurations(void) {
     ferretgold_cache *none = NULL;
     ferretgold_config all[18];
     static const int wanted[] = {29, 29, 29, 29, 30, 30, 31, 31, 32,
                                  32, 33, 33, 33, 33, 34, 34, 35, 35};
     for (size_t k = 0; k < 18; k++) {
-        all[k] = SMALL;
+        all[k] = SMALL, all[k].seed = 0;
     }
     all[0].slots = 0, all[1].slots = 4, all[2].slots = 9, all[3].slots = 131072;
     all[4].room = 0, all[5].room = 513;
@@ -57,10 +58,11 @@ static void configurations(void) {
     all[14].capacity = (UINT64_C(1) << 40) + 1, all[15].capacity = UINT64_MAX;
     all[16].serials = 0, all[17].serials = FERRETGOLD_MOST_SERIALS + 1;
     for (size_t k = 0; k < 18; k++) {
-        heap_left = 0;
+        heap_left = 0, draws_left = 0;
         EXPECT(ferretgold_open(&all[k], &none), wanted[k]);
-        heap_left = SIZE_MAX;
+        heap_left = SIZE_MAX, draws_left = -1;
         EXPECT(ferretgold_config_check(&all[k]), wanted[k]);
+        EXPECT(ferretgold_memory(&all[k]), 0);
     }
     EXPECT(none == NULL, true);
 }
@@ -89,6 +91,7 @@ static void sizes(void) {
         ferretgold_cache *cache = NULL;
         it.size = all[k].size;
         EXPECT(ferretgold_config_check(&it), all[k].wanted);
+        EXPECT(ferretgold_memory(&it) > 0, all[k].wanted == 0);
         EXPECT(ferretgold_open(&it, &cache), all[k].wanted);
         EXPECT(cache == NULL, all[k].wanted != 0);
         if (cache != NULL) {
@@ -176,48 +179,14 @@ static void no_copy(void) {
     EXPECT(ferretgold_close(cache, NULL), 0);
 }
 
-/* Configurations from a budget: slots, room, clients, shards, capacity. */
-static void budgets(void) {
-    static const struct {
-        uint64_t bytes;
-        uint32_t value, threads, slots, room, shards;
-        uint64_t capacity;
-    } all[] = {
-        {UINT64_C(1) << 30, 4096, 32, 4096, 512, 32, UINT64_C(91750) * 4096},
-        {1 << 20, 15, 4, 2048, 2, 4, 5734 * 16},
-        {1 << 20, 16, 1, 8192, 2, 1, 5734 * 16},
-        {100000, 8, 7, 1024, 1, 1, 716 * 8},
-        {160000, 8, 8, 1024, 1, 2, 1433 * 8},
-        {3872, 0, 1, 8, 1, 1, 5 * 8},
-        {UINT64_MAX, 4096, 1, 65536, 512, 64, UINT64_C(2936012) * 4096}};
-    ferretgold_config it = SMALL;
-    for (size_t k = 0; k < sizeof all / sizeof *all; k++) {
-        EXPECT(ferretgold_config_for(all[k].bytes, all[k].value, all[k].threads, &it), 0);
-        EXPECT(it.slots, all[k].slots);
-        EXPECT(it.room, all[k].room);
-        EXPECT(it.shards, all[k].shards);
-        EXPECT(it.clients, all[k].threads);
-        EXPECT(it.capacity, all[k].capacity);
-        EXPECT(ferretgold_memory(&it) <= all[k].bytes, true);
-        EXPECT(it.seed != 0 && it.serials == FERRETGOLD_MOST_SERIALS && it.handles == 16, true);
-    }
-    it = SMALL;
-    EXPECT(ferretgold_config_for(1 << 20, 8, 1, NULL), 16);
-    EXPECT(ferretgold_config_for(1 << 20, 4097, 1, &it), 30);
-    EXPECT(ferretgold_config_for(1 << 20, 8, 0, &it), 31);
-    EXPECT(ferretgold_config_for(1 << 20, 8, 1025, &it), 31);
-    EXPECT(ferretgold_config_for(3871, 8, 1, &it), 29);
-    EXPECT(it.slots == SMALL.slots && it.room == SMALL.room && it.seed == SMALL.seed, true);
-    EXPECT(ferretgold_config_for(UINT64_MAX, 4096, 1024, &it), 0);
-    EXPECT(it.shards == 64 && it.clients == 1024, true);
-}
-
 /* The configuration to begin with is one that a cache can have. */
 static void initialiser(void) {
     const ferretgold_config config = FERRETGOLD_CONFIG;
     ferretgold_cache *cache = NULL;
     EXPECT(ferretgold_open(&config, &cache), 0);
     EXPECT(ferretgold_close(cache, NULL), 0);
+    EXPECT(config.seed, 0);
+    EXPECT(ferretgold_config_advice(&config), 0);
     EXPECT(config.capacity, config.slots * config.shards * UINT64_C(7) / 10 * config.room * 8);
 }
 
@@ -306,9 +275,13 @@ static void no_handle(ferretgold_client *it, ferretgold_handle handle) {
     EXPECT(more.serial == 5 && key.w0 == 5 && length == 5 && freed && byte == 5, true);
 }
 
-/* The first handles of the first caches of a process: no call gives one of zeros, nor takes it. */
+/* The first handles of the first caches of a process, which are numbered from what was drawn on: no call
+ * gives one of zeros, nor takes it. */
 static void first_handles(void) {
     const ferretgold_handle zeros = {0, 0, 0, 0};
+    const uint64_t drawn = UINT32_MAX - 3;
+    const uint32_t numbers[] = {UINT32_MAX - 1, UINT32_MAX, 1};
+    draws_give = &drawn;
     for (int k = 0; k < 3; k++) {
         ferretgold_cache *cache = NULL;
         ferretgold_client *it = NULL;
@@ -317,10 +290,13 @@ static void first_handles(void) {
         EXPECT(ferretgold_client_open(cache, &it), 0);
         EXPECT(ferretgold_insert_pinned(it, &KEY, "", 0, 1, FERRETGOLD_LOW, NULL, &handle), 0);
         EXPECT(handle.index + handle.serial + handle.client, 0);
+        EXPECT(handle.cache, numbers[k]);
         no_handle(it, zeros);
         EXPECT(ferretgold_client_close_releasing(cache, it), 0);
         EXPECT(ferretgold_close(cache, NULL), 0);
     }
+    EXPECT(draws_met, 1);
+    draws_give = NULL;
 }
 
 /* What a client refuses of values, charges, priorities, slots; outputs that may be null. */
@@ -581,7 +557,6 @@ void edges(void) {
     no_memory(8);
     no_memory(65536);
     no_copy();
-    budgets();
     initialiser();
     counted();
     EXPECT(ferretgold_open(&SMALL, &cache), 0);

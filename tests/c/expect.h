@@ -23,4 +23,10 @@ void images(void);
 /* What no trace shows. */
 void edges(void);
 
+/* Seeds, and what is drawn. */
+void seeds(void);
+
+/* Configurations for so much memory, and what to think over in one. */
+void budgets(void);
+
 #endif

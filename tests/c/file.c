@@ -191,7 +191,9 @@ static void into_others(image *file) {
         uint64_t capacity, seed, left;
     } rows[] = {
         {"as it was: ", 2, 32, 6, 1000, 5, ENTRIES - 1},
-        {"another seed: ", 2, 32, 6, 1000, 0, ENTRIES - 1},
+        {"a seed that is drawn: ", 2, 32, 6, 1000, 0, ENTRIES - 1},
+        {"another seed: ", 2, 32, 6, 1000, 1, ENTRIES - 1},
+        {"no seed: ", 2, 32, 6, 1000, FERRETGOLD_UNSEEDED, ENTRIES - 1},
         {"more shards: ", 8, 16, 6, 1000, 77, ENTRIES - 1},
         {"one shard: ", 1, 64, 512, 1000, 5, ENTRIES - 1},
         {"values above 8 bytes don't fit: ", 2, 32, 1, 1000, 5, 6},

@@ -12,7 +12,7 @@ wants_library file
 
 files=${1:-100000}
 program=("$folder/file")
-wrap=-Wl,--wrap=malloc,--wrap=realloc,--wrap=aligned_alloc,--wrap=free
+wrap=-Wl,--wrap=malloc,--wrap=realloc,--wrap=aligned_alloc,--wrap=free,--wrap=getrandom
 
 # Builds a library of its own, with sanitizers if they are named: library SANITIZERS
 library() {

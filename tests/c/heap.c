@@ -1,9 +1,12 @@
-/* Counts what the library allocates. A program with it is linked with
- * -Wl,--wrap=malloc,--wrap=realloc,--wrap=aligned_alloc,--wrap=free. */
+/* Counts what the library allocates, and what it draws by getrandom. A program with it is linked with
+ * -Wl,--wrap=malloc,--wrap=realloc,--wrap=aligned_alloc,--wrap=free,--wrap=getrandom. */
 #include "heap.h"
 
+#include <errno.h>
 #include <stdint.h>
 #include <stdlib.h>
+#include <string.h>
+#include <sys/random.h>
 
 enum { PLACES = 1 << 14 };
 
@@ -11,6 +14,9 @@ size_t heap_blocks = 0;
 size_t heap_bytes = 0;
 size_t heap_left = SIZE_MAX;
 int heap_once = 0;
+int draws_left = -1;
+unsigned long draws_met = 0;
+const uint64_t *draws_give = NULL;
 
 /* Each block's address and size. */
 static struct block {
@@ -22,10 +28,12 @@ void *__real_malloc(size_t size);
 void *__real_realloc(void *at, size_t size);
 void *__real_aligned_alloc(size_t alignment, size_t size);
 void __real_free(void *at);
+ssize_t __real_getrandom(void *bytes, size_t count, unsigned flags);
 void *__wrap_malloc(size_t size);
 void *__wrap_realloc(void *at, size_t size);
 void *__wrap_aligned_alloc(size_t alignment, size_t size);
 void __wrap_free(void *at);
+ssize_t __wrap_getrandom(void *bytes, size_t count, unsigned flags);
 
 /* The place of a block, or an empty one for it. */
 static struct block *place_of(void *at) {
@@ -103,4 +111,22 @@ void *__wrap_aligned_alloc(size_t alignment, size_t size) {
 void __wrap_free(void *at) {
     uncount(at);
     __real_free(at);
+}
+
+/* A call that might wait is a bug: one that isn't to wait is refused as by a system with no number. */
+ssize_t __wrap_getrandom(void *bytes, size_t count, unsigned flags) {
+    if (flags != GRND_NONBLOCK || count != sizeof *draws_give) {
+        abort();
+    }
+    if (draws_left == 0) {
+        errno = EAGAIN;
+        return -1;
+    }
+    draws_left -= draws_left > 0;
+    draws_met += 1;
+    if (draws_give == NULL) {
+        return __real_getrandom(bytes, count, flags);
+    }
+    memcpy(bytes, draws_give, count);
+    return (ssize_t)count;
 }

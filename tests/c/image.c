@@ -248,6 +248,20 @@ static void refused_memory(void) {
     EXPECT(heap_blocks, blocks);
 }
 
+/* A value takes its bytes, and no more. */
+static void bytes(void) {
+    ferretgold_image *image = NULL;
+    size_t least = SIZE_MAX; /* some additions take a longer list, too */
+    EXPECT(ferretgold_image_open(&image), 0);
+    for (int k = 0; k < 10; k++) {
+        const size_t was = heap_bytes;
+        EXPECT(ferretgold_image_add(image, &rows[0].key, "sixteen bytes it", 16, 1, 1), 0);
+        least = heap_bytes - was < least ? heap_bytes - was : least;
+    }
+    EXPECT(least, 16);
+    ferretgold_image_free(image);
+}
+
 void images(void) {
     where = "images";
     begins();
@@ -255,4 +269,5 @@ void images(void) {
     refusals();
     numbers();
     refused_memory();
+    bytes();
 }

@@ -321,6 +321,7 @@ static void bad_configs(void) {
     for (size_t k = 0; k < 8; k++) {
         ferretgold_object_cache *cache = NULL;
         EXPECT(ferretgold_object_config_check(&all[k]), wanted[k]);
+        EXPECT(ferretgold_object_memory(&all[k]), 0);
         EXPECT(ferretgold_object_open(&all[k], note, NULL, &cache), wanted[k]);
     }
     heap_left = SIZE_MAX;
@@ -597,6 +598,7 @@ int main(int count, char **words) {
     if (rows) {
         object_rows();
         object_bytes();
+        object_seeds();
     }
     object_threads(count > 1 ? strtoul(words[count - 1], NULL, 10) : 1000000);
     printf("object: %lu faults\n", atomic_load(&object_faults));

@@ -68,6 +68,7 @@ ferretgold_object_config small_cache(bool strict = false,
     it.strict = strict;
     it.capacity = 100;
     it.serials = serials;
+    it.seed = 7;
     return it;
 }
 
@@ -258,6 +259,20 @@ void none() {
     EXPECT(!cache && !cache.lookup(key_of(1), why) && why == FERRETGOLD_NULL, true);
 }
 
+// The seed that a cache has opens another one so; where the system gives none, opening is refused.
+void seeded() {
+    ferretgold_object_config config = small_cache();
+    ferretgold_status why = FERRETGOLD_OK;
+    config.seed = 0;
+    const ferretgold_object_config is = opened(config).config();
+    EXPECT(is.seed != 0 && is.seed != FERRETGOLD_UNSEEDED, true);
+    EXPECT(opened(is).config().seed == is.seed, true);
+    draws_left = 0;
+    EXPECT(ferretgold::check(config), FERRETGOLD_OK);
+    EXPECT(!blocks(config, why) && why == FERRETGOLD_NO_SEED, true);
+    draws_left = -1;
+}
+
 void no_memory() {
     const std::size_t was = heap_blocks;
     for (std::size_t left = 0; left < 4; left++) {
@@ -284,6 +299,10 @@ void thrown() {
     blocks cache(small_cache(true));
     auto object = std::make_unique<block>(1);
     EXPECT(why([] { blocks bad{ferretgold_object_config{}}; }), FERRETGOLD_BAD_SLOTS);
+    draws_left = 0;
+    EXPECT(why([] { blocks none{ferretgold_object_config FERRETGOLD_OBJECT_CONFIG}; }),
+           FERRETGOLD_NO_SEED);
+    draws_left = -1;
     EXPECT(why([&] { cache.insert_pinned(key_of(1), std::move(object), 101); }),
            FERRETGOLD_TOO_LARGE);
     EXPECT(object != nullptr, true);
@@ -549,6 +568,7 @@ int main(int count, char **words) {
     temporaries();
     totals();
     none();
+    seeded();
     no_memory();
 #ifdef __cpp_exceptions
     thrown();

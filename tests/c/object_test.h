@@ -21,6 +21,9 @@ ferretgold_object_config small_cache(void);
 /* Objects that are bytes. */
 void object_bytes(void);
 
+/* Seeds, and what is drawn. */
+void object_seeds(void);
+
 /* What several do: so many operations of all. */
 void object_threads(unsigned long operations);
 

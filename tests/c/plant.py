@@ -28,7 +28,7 @@ from pathlib import Path
 
 TOP = Path(__file__).resolve().parent.parent.parent
 # What is compiled into the library.
-OBJECTS = ["src/ferretgold.c", "src/closed.c", "src/heap.c", "src/image.c", "src/sizes.c"]
+OBJECTS = [f"src/{it}.c" for it in ("ferretgold", "closed", "drawing", "heap", "image", "sizes")]
 # What is compiled only where there is xxhash.h.
 SAVES = ["src/file.c", "src/object_file.c", "include/ferretgold_file.hpp"]
 HANDS = [f"src/object{it}.c" for it in ("", "_bytes", "_clients", "_opening", "_queue")]
@@ -42,12 +42,12 @@ HEADERS = ["include/ferretgold_raw.h", "include/ferretgold_closed.h", "include/f
            "include/ferretgold_file.h", "include/ferretgold_image.h",
            "src/closed.h", "src/file.h", "src/heap.h", "src/limits.h", "src/object.h", "src/opening.h"]
 CHANCE = "by chance: "
-PLAYS = ["tests/c/play.c", "tests/c/edges.c", "tests/c/closed.c", "tests/c/image.c"]
+PLAYS = [f"tests/c/{it}.c" for it in ("play", "edges", "seeds", "budgets", "closed", "image")]
 CPP = ["tests/c/play.cpp", "tests/c/closed.cpp"]
 STREAMS = ["tests/c/file.cpp"]
-HANDED = ["tests/c/object.c", "tests/c/object_bytes.c", "tests/c/object_threads.c"]
+HANDED = [f"tests/c/object{it}.c" for it in ("", "_bytes", "_seeds", "_threads")]
 PROVED = TOP / "crates/hcc_c/out/libhcc_c.a"
-WRAP = "-Wl,--wrap=malloc,--wrap=realloc,--wrap=aligned_alloc,--wrap=free"
+WRAP = "-Wl,--wrap=malloc,--wrap=realloc,--wrap=aligned_alloc,--wrap=free,--wrap=getrandom"
 MET = "ferretgold: two threads use client 0 at once: ferretgold_usage and ferretgold_insert_pinned\n"
 TRACES = [TOP / "tests/program/calls", TOP / "tests/c/calls"]
 WARN = ["-Wall", "-Wextra", "-Wpedantic", "-Werror"]
@@ -305,7 +305,7 @@ class Trials:
     def __init__(self, folder, files, patient):
         self.folder, self.patient = Path(folder), patient
         self.libraries = [PROVED, "-pthread", WRAP]
-        self.least = [self.object("src/sizes.c"), self.object("src/heap.c"), PROVED, "-pthread"]
+        self.least = [*map(self.object, ("src/drawing.c", "src/heap.c", "src/sizes.c")), PROVED, "-pthread"]
         std = "".join((TOP / it).read_text("utf-8") for it in (*CPP, *STREAMS, *FILES) if it.endswith("pp"))
         (self.folder / "std.hpp").write_text("\n".join(re.findall(r"#include <.*>", std)), encoding="utf-8")
         if any(it.endswith(".hpp") for it in files):

@@ -1,5 +1,5 @@
 /* Plays traces of calls through ferretgold.h alone, and compares each answer with the one recorded
- * beside its call; then tries what no trace shows (edges.c, closed.c, image.c). It is what
+ * beside its call; then tries what no trace shows (edges.c, seeds.c, budgets.c, closed.c, image.c). It is what
  * tests/c/plant.py tries planted bugs by.
  * Usage: play FILE.. where a file has cases as tests/program/calls has, and a letter more:
  *     c T k0 k1 U|N n     reads a key's value to a buffer of n bytes: value V, short LENGTH, miss
@@ -280,6 +280,7 @@ static void begin(char **words) {
             set(*words + 2, words[1] == NULL ? 0 : number(words[1]));
         }
     }
+    config.seed = config.seed != 0 ? config.seed : FERRETGOLD_UNSEEDED; /* as traces have it */
     memset(registers, 0, sizeof registers);
     memset(clients, 0, sizeof clients);
     EXPECT(ferretgold_open(&config, &cache), 0);
@@ -356,6 +357,8 @@ static void play_file(const char *path) {
 
 int main(int count, char **files) {
     edges();
+    seeds();
+    budgets();
     closed_caches();
     images();
     EXPECT(heap_blocks, 0);

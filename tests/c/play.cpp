@@ -282,6 +282,7 @@ ferretgold_config config_of(const words &options) {
         config.serials = name == "--serials" ? wide : config.serials;
         config.seed = name == "--seed" ? wide : config.seed;
     }
+    config.seed = config.seed != 0 ? config.seed : FERRETGOLD_UNSEEDED; // as traces have it
     return config;
 }
 
@@ -421,6 +422,23 @@ void moved_caches() {
     EXPECT(it.get() == was && second.get() == nullptr);
 }
 
+// The seed that a cache has opens another one so; where the system gives none, both forms refuse.
+void seeded() {
+    ferretgold_config config = small();
+    config.seed = 0;
+    const ferretgold_config is = cache(config).config();
+    EXPECT(is.seed != 0 && is.seed != FERRETGOLD_UNSEEDED);
+    EXPECT(cache(is).config().seed == is.seed);
+    ferretgold_status why{};
+    draws_left = 0;
+    EXPECT(ferretgold::check(config) == FERRETGOLD_OK);
+    EXPECT(cache(config, why).get() == nullptr && why == FERRETGOLD_NO_SEED);
+    EXPECT(refuses([&] { cache none(config); }, FERRETGOLD_NO_SEED));
+    EXPECT(refuses([&] { (void)ferretgold::image().reopen(config); }, FERRETGOLD_NO_SEED));
+    EXPECT(cache(is).get() != nullptr);
+    draws_left = -1;
+}
+
 // What is none is refused, by both forms of each call.
 void nobody() {
     ferretgold_status why{};
@@ -519,6 +537,15 @@ void sizes() {
     EXPECT(ferretgold::config_for(1 << 20, 64, 3).slots == config.slots);
     EXPECT(refuses([&] { (void)ferretgold::config_for(1 << 20, 64, 0); }, 31));
     EXPECT(ferretgold::memory(config) == ferretgold_memory(&config));
+    ferretgold_fit fit{}, more{};
+    EXPECT(ferretgold::config_for(1 << 20, 64, 3, why, &fit).slots == config.slots);
+    EXPECT(fit.bytes == ferretgold::memory(config) && fit.half && fit.values == 64 * fit.entries);
+    (void)ferretgold::config_for(fit.more, 64, 3, &more);
+    EXPECT(more.entries / 2 == fit.entries);
+    ferretgold_config many = config;
+    many.handles = many.slots;
+    EXPECT(ferretgold::advice(config) == 0 && ferretgold::advice(many) == FERRETGOLD_MANY_HANDLES);
+    EXPECT(ferretgold::advice_text(FERRETGOLD_MANY_HANDLES) != std::string("unknown"));
     EXPECT(ferretgold::version() == std::string(FERRETGOLD_VERSION));
 }
 
@@ -584,6 +611,7 @@ void edges() {
     lent();
     defaults();
     moved_caches();
+    seeded();
     outlived();
     given();
     nobody();

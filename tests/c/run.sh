@@ -52,12 +52,12 @@ hands() {
 
 # Makes the calls of ferretgold_object.h, so many by threads: objects OPERATIONS LIBRARY WORD..
 objects() {
-    builds_counting "$2" cc -std=c11 "${@:3}" tests/c/object{,_bytes,_threads}.c && "$folder/built" "$1"
+    builds_counting "$2" cc -std=c11 "${@:3}" tests/c/object{,_bytes,_seeds,_threads}.c && "$folder/built" "$1"
 }
 
 # The calls of threads alone: objects_of_threads OPERATIONS WORD..
 objects_of_threads() {
-    builds_counting -lstdc++ cc -std=c11 tests/c/object{,_bytes,_threads}.c "${@:2}" && "$folder/built" threads "$1"
+    builds_counting -lstdc++ cc -std=c11 tests/c/object{,_bytes,_seeds,_threads}.c "${@:2}" && "$folder/built" threads "$1"
 }
 
 # The same of its wrapper for C++: wraps OPERATIONS LIBRARY WORD..
@@ -79,15 +79,17 @@ owns() {
             "$folder/met" && [[ $(wc -l < "$folder/met") == 1 ]]
 }
 
-# The crate's tests of objects: objects_in_rust LIBRARY WORD..
+# The crate's tests of objects and of seeds, these also where no seed can be drawn: objects_in_rust LIBRARY WORD..
 objects_in_rust() {
     local name words=(--edition 2021 -O -D warnings) sanitizer=
     [[ $# == 1 ]] || sanitizer=$(readlink -f "$(cc -print-file-name=libasan.so)")
     rustc "${words[@]}" --crate-type rlib --crate-name ferretgold rust/src/lib.rs --out-dir "$folder" || return
-    for name in objects loads; do
+    for name in objects loads seeds; do
         rustc "${words[@]}" --test "rust/tests/$name.rs" --extern "ferretgold=$folder/libferretgold.rlib" \
             -C link-arg="$1" "${@:2}" -o "$folder/built" && LD_PRELOAD=$sanitizer "$folder/built" || return
     done
+    cc -shared -fPIC tests/c/no_seeds.c -o "$folder/no_seeds.so" \
+        && NO_SEEDS=1 LD_PRELOAD=$sanitizer:$folder/no_seeds.so "$folder/built"
 }
 
 # Builds a program and runs it: runs WORD..
@@ -123,6 +125,61 @@ exports() {
         nm -g --defined-only "$library" | sed -n 's/.* T //p' | sort > "$folder/defined"
         [[ -s $folder/declared && -z $(comm -23 "$folder/declared" "$folder/defined") ]] || return
     done
+}
+
+# The guide's table of budgets is as the library has it.
+is_in_guide() {
+    local row
+    builds cc -std=c11 tests/c/budget_rows.c "$library" && "$folder/built" > "$folder/rows" || return
+    [[ $(wc -l < "$folder/rows") == 4 ]] || return
+    while read -r row; do
+        grep -qxF "$row" docs/GUIDE.md || { echo "the guide has no row $row"; return 1; }
+    done < "$folder/rows"
+}
+
+# The headers as those of another version, by one of its numbers: of_version NUMBER
+of_version() {
+    rm -rf "$folder/include" && cp -r include "$folder/include" \
+        && sed -i -E "s/^(#define FERRETGOLD_VERSION_$1) .*/\1 7/" "$folder/include/ferretgold.h"
+}
+
+# Links a program, and passes where a function isn't there for it: lacks_function NAME WORD..
+lacks_function() {
+    ! "${@:2}" -o "$folder/linked" > "$folder/said" 2>&1 && grep -q "undefined reference to .$1'" "$folder/said"
+}
+
+# A program that was compiled with the header of another MAJOR or MINOR doesn't link, nor does one of which
+# a part was that only makes inline calls: is_tied WORD..
+is_tied() {
+    local numbers it
+    echo '#include "ferretgold.h"
+        int held(ferretgold_client *it, ferretgold_handle handle) { return ferretgold_reref(it, handle, &handle); }' \
+        > "$folder/inline.c"
+    echo '#include "ferretgold_object.h"
+        int main(void) { return ferretgold_object_open(0, ferretgold_object_free_bytes, 0, 0); }' > "$folder/opens.c"
+    for it in MAJOR MINOR; do
+        numbers=$([[ $it == MAJOR ]] && echo 7_1 || echo 0_7)
+        of_version $it || return
+        lacks_function "ferretgold_open_$numbers" \
+            cc -std=c11 "$@" -I"$folder/include" examples/c/two_threads.c "$library" -pthread || return
+        lacks_function "ferretgold_object_open_$numbers" \
+            c++ -std=c++11 "$@" -I"$folder/include" -x c++ "$folder/opens.c" -x none "$library" -pthread || return
+        cc -std=c11 -O2 -I"$folder/include" -c "$folder/inline.c" -o "$folder/inline.o" || return
+        lacks_function "ferretgold_idle_$numbers" \
+            cc -std=c11 -Iinclude examples/c/two_threads.c "$folder/inline.o" "$library" -pthread || return
+    done
+    of_version PATCH && cc -std=c11 "$@" -I"$folder/include" examples/c/two_threads.c "$library" -pthread \
+        -o "$folder/linked" && "$folder/linked"
+}
+
+# Nor does one with the crate of another.
+is_tied_in_rust() {
+    cp -r rust/src "$folder/crate" && sed -i 's/_0_1"\]/_0_7"]/' "$folder/crate/raw.rs" \
+        && rustc --edition 2021 --crate-type rlib --crate-name ferretgold "$folder/crate/lib.rs" --out-dir "$folder" \
+        && lacks_function ferretgold_object_open_0_7 rustc --edition 2021 rust/examples/objects.rs \
+            --extern "ferretgold=$folder/libferretgold.rlib" -C link-arg="$library" \
+        && lacks_function ferretgold_open_0_7 rustc --edition 2021 rust/examples/threads.rs \
+            --extern "ferretgold=$folder/libferretgold.rlib" -C link-arg="$library"
 }
 
 # Fails for a compiler that isn't there.
@@ -164,9 +221,9 @@ sanitize=(-fsanitize=address,undefined -fno-sanitize-recover=all)
 in_rust='40000 squares are right, and the books agree with the slots
 40000 blocks are right'
 
-wrap=-Wl,--wrap=malloc,--wrap=realloc,--wrap=aligned_alloc,--wrap=free
+wrap=-Wl,--wrap=malloc,--wrap=realloc,--wrap=aligned_alloc,--wrap=free,--wrap=getrandom
 library=src/out/libferretgold.a
-traces=(tests/c/play.c tests/c/edges.c tests/c/closed.c tests/c/image.c)
+traces=(tests/c/{play,edges,seeds,budgets,closed,image}.c)
 met='ferretgold: two threads use client 0 at once: ferretgold_usage and ferretgold_insert_pinned'
 
 if command -v cc > /dev/null; then
@@ -187,6 +244,9 @@ if command -v cc > /dev/null; then
     tries "the header for objects in C99" is_plain cc -std=c99 -x c
     tries "two threads in one client, checked" meets
     tries "each function of the header is a symbol of the library" exports
+    tries "the guide's table of budgets" is_in_guide
+    tries "headers of another version, no call inline" is_tied -O0
+    tries "headers of another version" is_tied -O2
     tries "C with memory refused" bears_refusals
     if sanitizes c cc; then
         make -s -C src OUT="$folder/sanitized" SANITIZE=address,undefined || exit 1
@@ -228,6 +288,7 @@ fi
 if command -v rustc > /dev/null; then
     tries "Rust" prints "$in_rust" run-rust
     tries "objects in Rust" objects_in_rust src/out/libferretgold.a
+    library=src/out/libferretgold.a tries "the crate of another version" is_tied_in_rust
     tries "objects in Rust, checked" objects_in_rust src/out/libferretgold_check.a
     if sanitizes c cc; then
         tries "objects in Rust, sanitized" objects_in_rust "$library" -C link-args="-lasan -lubsan"

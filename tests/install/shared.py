@@ -4,15 +4,17 @@ ctypes.
 Usage: tests/install/shared.py PREFIX"""
 import ctypes
 import re
+import shutil
 import subprocess
 import sys
+import tempfile
 from ctypes import POINTER, byref, c_bool, c_char_p, c_size_t, c_uint16, c_uint32, c_uint64, c_void_p
 from pathlib import Path
 
 PREFIX = Path(sys.argv[1])
 LIBRARY = PREFIX / "lib/libferretgold.so"
 HEADER = "".join((PREFIX / f"include/ferretgold{it}.h").read_text(encoding="utf-8") for it in ("", "_closed", "_image", "_inline", "_object"))
-MISS, TOO_SHORT, BAD_SIZE = 1, 20, 40
+MISS, NO_HANDLE, TOO_SHORT, BAD_SIZE = 1, 17, 20, 40
 
 
 class Config(ctypes.Structure):
@@ -25,15 +27,21 @@ class Key(ctypes.Structure):
     _fields_ = [("w0", c_uint64), ("w1", c_uint64)]
 
 
+class Handle(ctypes.Structure):
+    _fields_ = [("index", c_size_t), ("serial", c_uint64), ("client", c_uint32), ("cache", c_uint32)]
+
+
 class Totals(ctypes.Structure):
     _fields_ = [(it, c_uint64) for it in ("usage", "occupied", "slot_charges", "slot_count")]
 
 
 def named():
-    """The functions that the header declares or calls, but its own."""
+    """The functions that the header declares or calls, but its own; also by the names by which it links them."""
+    numbers = "_".join(version_of(HEADER)[1].split(".")[:2])
+    linked = set(re.findall(r"FERRETGOLD_(?:LINKED|OF_VERSION)\((ferretgold_\w+)\)", HEADER))
     code = re.sub(r"/\*.*?\*/|//[^\n]*|^[ \t]*#(?:[^\n]*\\\n)*[^\n]*", " ", HEADER, flags=re.S | re.M)
     own = set(re.findall(r"\bstatic inline [^;{}]*?(ferretgold_\w+)\s*\(", code))
-    return set(re.findall(r"\b(ferretgold_\w+)\s*\(", code)) - own
+    return {f"{it}_{numbers}" for it in linked} | set(re.findall(r"\b(ferretgold_\w+)\s*\(", code)) - own
 
 
 def exported():
@@ -55,8 +63,8 @@ def called():
     assert version_of(HEADER) == (version, version), version_of(HEADER)
     config, cache, client = Config(), c_void_p(), c_void_p()
     length, inserted, totals, key = c_size_t(), c_uint32(9), Totals(), Key(1, 2)
-    it.ferretgold_config_for.argtypes = [c_uint64, c_size_t, c_uint32, POINTER(Config)]
-    assert it.ferretgold_config_for(1 << 20, 64, 2, byref(config)) == 0
+    it.ferretgold_config_for.argtypes = [c_uint64, c_size_t, c_uint32, POINTER(Config), c_void_p]
+    assert it.ferretgold_config_for(1 << 20, 64, 2, byref(config), None) == 0
     assert config.size == ctypes.sizeof(Config) == 48 and config.clients == 2
     config.size = 56
     assert it.ferretgold_open(byref(config), byref(cache)) == BAD_SIZE
@@ -76,10 +84,37 @@ def called():
     assert [getattr(totals, name) for name, _ in Totals._fields_] == [7, 1, 7, 1]
 
 
+def opened(library):
+    """A cache, a client of it, and a handle on an entry of it."""
+    config, cache, client, handle = Config(), c_void_p(), c_void_p(), Handle()
+    assert library.ferretgold_config_for(c_uint64(1 << 20), c_size_t(8), c_uint32(1), byref(config), None) == 0
+    assert library.ferretgold_open(byref(config), byref(cache)) == 0
+    assert library.ferretgold_client_open(cache, byref(client)) == 0
+    words = [client, byref(Key(1, 2)), b"a", c_size_t(1), c_uint32(1), c_uint32(1), None, byref(handle)]
+    assert library.ferretgold_insert_pinned(*words) == 0
+    return client, handle
+
+
+def copied(folder):
+    """Two copies of the library in one process: neither takes the other's handle, though both are the first of
+    their caches' first clients."""
+    copies = []
+    for name in ("one.so", "other.so"):
+        shutil.copy(LIBRARY, folder / name)
+        copies.append(ctypes.CDLL(str(folder / name)))
+    (client, handle), (_, other) = map(opened, copies)
+    length = c_size_t()
+    assert copies[0].ferretgold_value_len(client, handle, byref(length)) == 0
+    assert copies[0].ferretgold_value_len(client, other, byref(length)) == NO_HANDLE
+    assert (handle.index, handle.serial, handle.client) == (other.index, other.serial, other.client)
+
+
 def main():
     for name in sorted(named() ^ exported()):
         print(f"{name}: only {'the header names it' if name in named() else 'the library exports it'}")
     called()
+    with tempfile.TemporaryDirectory() as folder:
+        copied(Path(folder))
     print(f"shared: {len(exported())} functions")
     return named() != exported()
 

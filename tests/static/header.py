@@ -17,7 +17,7 @@ RUST = TOP / "rust/src"
 PLAIN = {"uint16_t": "u16", "uint32_t": "u32", "uint64_t": "u64", "size_t": "usize", "bool": "bool",
          "void": "c_void", "char": "c_char", "ferretgold_status": "u32", "ferretgold_priority": "u32",
          "ferretgold_inserted": "u32", "ferretgold_file_status": "u32"}
-FIELDS = ("config", "handle", "key", "stats", "counts", "totals", "entry", "loaded", "object_config",
+FIELDS = ("config", "handle", "key", "stats", "counts", "totals", "fit", "entry", "loaded", "object_config",
           "object_handle")
 HEADERS = tuple(TOP / f"include/ferretgold{it}.h" for it in ("", "_closed", "_image", "_file", "_object"))
 IN_CPP = {"ferretgold.hpp": HEADERS[:3], "ferretgold_file.hpp": HEADERS[3:4],
@@ -25,6 +25,8 @@ IN_CPP = {"ferretgold.hpp": HEADERS[:3], "ferretgold_file.hpp": HEADERS[3:4],
 # For which C++ and Rust have types, and what neither has, with its status.
 ONLY_IN_C = (*(f"ferretgold_object_{it}" for it in ("free_bytes", "insert_bytes", "bytes", "save", "load",
                                                     "size", "copy", "make")), "BUSY")
+# By which name a function is linked.
+LINKED = r"FERRETGOLD_LINKED\((\w+)\)"
 # Functions of the caller's, which the library calls.
 GIVEN = ("ferretgold_write", "ferretgold_read", "ferretgold_deleter")
 
@@ -85,8 +87,9 @@ def layout():
 
 
 def code_of(path):
-    """A header without comments and preprocessor lines."""
-    return re.sub(r"/\*.*?\*/|//[^\n]*|^[ \t]*#(?:[^\n]*\\\n)*[^\n]*", " ", read(path), flags=re.S | re.M)
+    """A header without comments, preprocessor lines and names by which it links functions."""
+    text = re.sub(r"/\*.*?\*/|//[^\n]*|^[ \t]*#(?:[^\n]*\\\n)*[^\n]*", " ", read(path), flags=re.S | re.M)
+    return re.sub(rf"\s+{LINKED}", "", text)
 
 
 def rust_name(name):
@@ -125,6 +128,15 @@ def crate_declares():
     return {name or f"ferretgold_{given.lower()}":
             ([tuple(it.strip().split(": ")) for it in parameters.split(",") if it.strip()], kind)
             for name, given, parameters, kind in found}
+
+
+def linked():
+    """The functions that have a name with the version's numbers, and that name, in C and in the crate."""
+    version = re.search(r'FERRETGOLD_VERSION "(\d+)\.(\d+)', read(HEADERS[0]))
+    names = re.findall(rf"(\w+)\([^()]*\)\s+{LINKED};", "".join(map(read, HEADERS)))
+    in_c = {name: f"{label}_{version[1]}_{version[2]}" for name, label in names}
+    found = re.findall(r'#\[link_name = "(\w+)"\]\s+pub fn (\w+)', read(RUST / "raw.rs"))
+    return in_c, {name: label for label, name in found}
 
 
 def fields(kind, code, crate):
@@ -168,6 +180,9 @@ def wrappers():
         in_c, in_rust = numbers(*it, code, crate)
         if in_c != in_rust:
             yield f"the crate's numbers of {it[0]} differ: {sorted(in_c.items() ^ in_rust.items())}"
+    in_c, in_rust = linked()
+    if in_c != in_rust:
+        yield f"the crate links {in_rust}, not {in_c}"
     version = re.search(r'FERRETGOLD_VERSION "(.*)"', read(HEADERS[0]))[1]
     if f'\nversion = "{version}"\n' not in read(TOP / "rust/Cargo.toml"):
         yield f"the crate hasn't version {version}"
