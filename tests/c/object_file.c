@@ -197,16 +197,17 @@ static uint64_t found(ferretgold_object_cache *cache) {
 
 /* ---- Rows ------------------------------------------------------------------------------------ */
 
-/* A file is loaded whole where there is room, and else in part; what is there already stays. */
+/* A file is loaded whole where there is room; else later entries take the place of others. What is
+ * there already stays. */
 static void into_others(image *file) {
     static const struct {
         const char *name;
         uint32_t shards, slots;
-        uint64_t capacity, left, again;
+        uint64_t capacity, there;
     } rows[] = {
-        {"as it was: ", 2, 32, 1000, ENTRIES - 1, 0},
-        {"more shards: ", 8, 16, 8000, ENTRIES - 1, 0},
-        {"6 entries fit, and later ones go before: ", 1, 8, 1000, ENTRIES - 1, 1},
+        {"as it was: ", 2, 32, 1000, ENTRIES - 1},
+        {"more shards: ", 8, 16, 8000, ENTRIES - 1},
+        {"6 entries fit, and evictions free more than one: ", 1, 8, 1000, 5},
     };
     for (size_t at = 0; at < sizeof rows / sizeof *rows; at++) {
         ferretgold_object_config config =
@@ -216,11 +217,11 @@ static void into_others(image *file) {
         ferretgold_object_cache *cache = opened(&config);
         EXPECT(load(file, cache, &loaded), FERRETGOLD_FILE_OK);
         EXPECT(loaded.entries, ENTRIES - 1);
-        EXPECT(loaded.left, rows[at].left);
-        EXPECT(loaded.lost, ENTRIES - 1 - rows[at].left);
-        EXPECT(found(cache), rows[at].again == 0 ? ENTRIES - 1 : 6);
+        EXPECT(loaded.left, ENTRIES - 1);
+        EXPECT(loaded.lost, 0);
+        EXPECT(found(cache), rows[at].there);
         EXPECT(load(file, cache, &loaded), FERRETGOLD_FILE_OK);
-        EXPECT(loaded.left == 0, rows[at].again == 0);
+        EXPECT(loaded.left == 0, rows[at].there == ENTRIES - 1);
         EXPECT(loaded.left + loaded.lost, ENTRIES - 1);
         closed(cache);
     }
@@ -507,7 +508,7 @@ static void beside_threads(image *file) {
     for (int it = 0; it < THREADS; it++) {
         EXPECT(pthread_create(&threads[it], NULL, work, cache), 0);
     }
-    for (int round = 0; round < 200; round++) {
+    for (int round = 0; round < 200 || all < 1000; round++) {
         ferretgold_loaded loaded = {0, 0, 0};
         file->length = file->at = 0;
         EXPECT(ferretgold_object_save(cache, number_size, number_copy, &could, write_image, file,
@@ -521,7 +522,7 @@ static void beside_threads(image *file) {
     for (int it = 0; it < THREADS; it++) {
         EXPECT(pthread_join(threads[it], NULL), 0);
     }
-    EXPECT(all > 0 && read == all, true);
+    EXPECT(read, all);
     closed(cache);
 }
 
