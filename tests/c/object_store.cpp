@@ -179,8 +179,14 @@ class shard {
   private:
     using freed_slots = std::pair<uint64_t, uint64_t>; // how many, and their charges
 
+    static uint64_t mixed(uint64_t word) {
+        word *= UINT64_C(0x9e3779b97f4a7c15);
+        return word ^ word >> 32;
+    }
+
     std::size_t probe(const ferretgold_key &key, uint64_t n) const {
-        return (key.w1 + n * (key.w0 | 1)) & (slots_.size() - 1);
+        const uint64_t home = mixed(key.w0 + mixed(key.w1));
+        return (home + n * (mixed(home) | 1)) & (slots_.size() - 1);
     }
 
     bool hold(std::size_t at) {
