@@ -44,9 +44,9 @@ static void *large(size_t bytes) {
 
 /* The alignment divides 16, as that of malloc's blocks. There are less than 2^63 bytes, as in all that
  * Rattle asks for. What has the alignment of bytes is the value of an image's entry, or a handle's copy,
- * in which nobody writes once it is there: it takes no line more. */
+ * in which nobody writes once it is there: it takes no line more, unless it has none. */
 tried rattle_alloc(size_t bytes, size_t alignment) {
-    if (alignment == 1) {
+    if (alignment == 1 && bytes != 0) {
         return tell(malloc(bytes));
     }
     return tell(taken(bytes) < LARGE_BLOCK ? malloc(taken(bytes)) : large(bytes));

@@ -281,12 +281,14 @@ static void first_handles(void) {
     const ferretgold_handle zeros = {0, 0, 0, 0};
     const uint64_t drawn = UINT32_MAX - 3;
     const uint32_t numbers[] = {UINT32_MAX - 1, UINT32_MAX, 1};
+    ferretgold_config one = SMALL;
+    one.clients = 1;
     draws_give = &drawn;
     for (int k = 0; k < 3; k++) {
         ferretgold_cache *cache = NULL;
         ferretgold_client *it = NULL;
         ferretgold_handle handle;
-        EXPECT(ferretgold_open(&SMALL, &cache), 0);
+        EXPECT(ferretgold_open(&one, &cache), 0);
         EXPECT(ferretgold_client_open(cache, &it), 0);
         EXPECT(ferretgold_insert_pinned(it, &KEY, "", 0, 1, FERRETGOLD_LOW, NULL, &handle), 0);
         EXPECT(handle.index + handle.serial + handle.client, 0);
