@@ -1,6 +1,8 @@
 -- What a client knows of a shard later, and what of it was taken away since.
 use Rattle.std.specs.Prelude.{◌≡◌, ◌≢◌, ℕ, List, ◌++◌, Some, slice_get}
+use Rattle.hcc_core.specs.declared.event.Event.TheVariants as events
 use Rattle.hcc_core.specs.declared.slot.Entry.{Entry}
+use Rattle.hcc_core.specs.Shown.{shown_at}
 use Rattle.hcc_rule.specs.declared.key.Key.{Key}
 use Rattle.hcc_rule.specs.declared.view.Done.{Done}
 use Rattle.hcc_rule.specs.Acts.{client_by}
@@ -39,3 +41,10 @@ module _ {T : Type 0} (cache : Cache T) (key : Key) where
     pub goes : GoesOnAt (shard_in cache key) old new
     pub since : IsTakenSince old k goes.more
     pub other : client_by since.taken.done.event ≢ old.number
+
+  -- So it was, by an event among those by which what the client knows went on, its own or that of
+  -- another client: at the end the slot doesn't show that entry.
+  pub record IsTakenBetween (old new : Client T) (k : KnowsShown cache key old) : Type 0 where
+    pub goes : GoesOnAt (shard_in cache key) old new
+    pub since : IsTakenSince old k goes.more
+    pub gone : shown_at (world_at k.shard.table goes.is.seat) k.slot ≢ Some since.entry

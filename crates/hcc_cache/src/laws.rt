@@ -2,7 +2,7 @@
 //!
 //! No function here does anything when it runs: its contract is the law. `m.holds.world` is the
 //! lawful world that the shard's words and what its clients know show.
-ghost use Rattle.std.specs.Prelude.{◌≡◌, ◌⊎◌, ℕ, ◌+◌, ◌-◌, ◌*◌, ◌/◌, ◌^◌, ◌<◌, ◌≤◌, ◌↔◌, ◌++◌, min, Bool, true, false, List, Option, None, Some, Ok, Result, IsNone, IsOk, IsSome, slice_get};
+ghost use Rattle.std.specs.Prelude.{◌≡◌, ◌≢◌, ◌⊎◌, ℕ, ◌+◌, ◌-◌, ◌*◌, ◌/◌, ◌^◌, ◌<◌, ◌≤◌, ◌↔◌, ◌++◌, min, Bool, true, false, List, Option, None, Some, Ok, Result, IsNone, IsOk, IsSome, slice_get};
 ghost use Rattle.hcc_core.specs.declared.limits.TheConstants.{OCCUPANCY_PERCENT};
 ghost use Rattle.std.specs.List.{list_any};
 ghost use Rattle.hcc_core.specs.declared.slot.Entry.{Entry};
@@ -32,7 +32,7 @@ ghost use Rattle.hcc_shard.specs.declared.inserting.Inserted.{Inserted as Stored
 ghost use Rattle.hcc_shard.specs.declared.inserting.Inserted.TheVariants as stored;
 ghost use Rattle.hcc_shard.specs.declared.inserting.Pinned.{Pinned};
 ghost use Rattle.hcc_shard.specs.declared.inserting.Pinned.TheVariants as pinned;
-ghost use Rattle.hcc_table.specs.Standing.{FindsFirst, FindsLasting, HidesShown, ShowsKey};
+ghost use Rattle.hcc_table.specs.Standing.{shown_at, FindsFirst, FindsLasting, HidesShown, ShowsKey};
 ghost use Rattle.hcc_cache.specs.declared.cache.Cache.{Cache};
 ghost use Rattle.hcc_cache.specs.declared.client.Client.{Client};
 ghost use Rattle.hcc_cache.specs.declared.config.Config.{Config};
@@ -271,6 +271,12 @@ pub fn law_shown_since<T: Tag>()
         (old new : Client T) (g : GoesOnAt (shard_in cache key) old new)
         (k : KnowsShown cache key old)
         → KnowsShown cache key new ⊎ IsTakenSince cache key old k g.more }
+
+    // What was taken away so its slot doesn't show again.
+    ensures gone { (cache : Cache T) → BeganEachWithin cache T.fits → (key : Key)
+        (old new : Client T) (g : GoesOnAt (shard_in cache key) old new)
+        (k : KnowsShown cache key old) (t : IsTakenSince cache key old k g.more)
+        → shown_at (world_at k.shard.table g.is.seat) k.slot ≢ Some t.entry }
 
     // After a call that makes and takes no entry, and shows and hides none, as those that
     // `law_kept_shown` names, that event is another client's.

@@ -1,19 +1,27 @@
 //! What calls do in a cache that clients share, whatever others do meanwhile.
 //!
 //! No function here does anything when it runs: its contract is the law.
-ghost use Rattle.std.specs.Prelude.{◌≡◌, ℕ, ◌-◌, ◌^◌, ◌<◌, min, List};
+ghost use Rattle.std.specs.Prelude.{◌≡◌, ℕ, ◌-◌, ◌^◌, ◌<◌, min, Bool, List};
 ghost use Rattle.std.specs.declared.alloc.Global.{Global};
 ghost use Rattle.hcc_core.specs.Sums.{total};
 ghost use Rattle.hcc_core.specs.World.{standing_in};
-ghost use Rattle.hcc_rule.specs.Callers.{world_at};
+ghost use Rattle.hcc_rule.specs.declared.key.Key.{Key};
+ghost use Rattle.hcc_rule.specs.Callers.{slots_of, world_at};
 ghost use Rattle.hcc_shard.specs.declared.seat.ShardSeat.{ShardSeat};
 ghost use Rattle.hcc_shard.specs.declared.shard.Shard.{Shard};
 ghost use Rattle.hcc_shard.specs.Counted.{CountsPinned};
 ghost use Rattle.hcc_cache.specs.declared.cache.Cache.{Cache};
 ghost use Rattle.hcc_cache.specs.declared.client.Client.{Client};
 ghost use Rattle.hcc_cache.specs.declared.seeded.Seeded.{Seeded};
+ghost use Rattle.hcc_cache.specs.Calls.{ErasesListed};
 ghost use Rattle.hcc_cache.specs.Keys.{fits_seeded};
+ghost use Rattle.hcc_cache.specs.Known.{Knows};
+ghost use Rattle.hcc_cache.specs.Moments.{KnowsShown};
+ghost use Rattle.hcc_cache.specs.Sharding.{key_to};
+ghost use Rattle.hcc_cache.specs.Since.{IsTakenBetween};
+ghost use Rattle.hcc_cache.specs.Stays.{BeganEachWithin};
 ghost use Rattle.hcc_cache.specs.Totals.{occupancy_in, usage_in, KnowsEach, LoadsEachOccupancy, LoadsEachUsage};
+ghost use Rattle.hcc_cache.specs.Within.{LacksWithin};
 
 use hcc_rule::Tag;
 
@@ -40,4 +48,22 @@ pub fn law_loaded<T: Tag>()
     ensures standing { (shard : Shard (Seeded T) Global) (found : ℕ)
         (was is : ShardSeat (Seeded T)) (h : CountsPinned (fits_seeded T.fits) shard found was is)
         → h.standing ≡ standing_in (world_at shard.table h.loaded) }
+{}
+
+/// An erasure takes away what stands through it.
+///
+/// Another client may insert the key behind it: so at the end a slot may show another entry of it.
+pub fn law_erased<T: Tag>()
+    // Each slot of the key's shard lacks the key at some moment of the call.
+    ensures lacks { (cache : Cache T) (key : Key) (room : Bool) (hidden : ℕ) (old new : Client T)
+        (h : ErasesListed cache T.fits key room hidden old new) (slot : ℕ)
+        → slot < slots_of h.shard.table
+        → LacksWithin h.shard.table h.was.seat h.is.seat (key_to cache.seed key) slot }
+
+    // An entry of the key that the client knew to be shown when the call began was taken away until
+    // it ended, by this client or another one, and its slot doesn't show it at the end.
+    ensures taken { (cache : Cache T) → BeganEachWithin cache T.fits → (key : Key) (room : Bool)
+        (hidden : ℕ) (old new : Client T) → Knows cache old
+        → ErasesListed cache T.fits key room hidden old new → (k : KnowsShown cache key old)
+        → IsTakenBetween cache key old new k }
 {}
