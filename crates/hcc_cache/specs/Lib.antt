@@ -18,6 +18,7 @@ pub mod Left
 pub mod Closings
 pub mod Ended
 pub mod Inserts
+pub mod Met
 pub mod ObjectInserts
 pub mod ObjectConfigs
 pub mod ObjectsOpened

@@ -1,21 +1,27 @@
 //! What calls do in a cache that clients share, whatever others do meanwhile.
 //!
 //! No function here does anything when it runs: its contract is the law.
-ghost use Rattle.std.specs.Prelude.{◌≡◌, ℕ, ◌-◌, ◌^◌, ◌<◌, min, Bool, List};
+ghost use Rattle.std.specs.Prelude.{◌≡◌, ℕ, ◌-◌, ◌^◌, ◌<◌, min, Bool, List, None, Result, Some};
 ghost use Rattle.std.specs.declared.alloc.Global.{Global};
 ghost use Rattle.hcc_core.specs.Sums.{total};
 ghost use Rattle.hcc_core.specs.World.{standing_in};
 ghost use Rattle.hcc_rule.specs.declared.key.Key.{Key};
 ghost use Rattle.hcc_rule.specs.Callers.{slots_of, world_at};
+ghost use Rattle.hcc_charge.specs.declared.reserving.Refused.{Refused};
+ghost use Rattle.hcc_shard.specs.declared.inserting.Inserted.{Inserted as Stored};
+ghost use Rattle.hcc_shard.specs.declared.inserting.Pinned.{Pinned};
 ghost use Rattle.hcc_shard.specs.declared.seat.ShardSeat.{ShardSeat};
 ghost use Rattle.hcc_shard.specs.declared.shard.Shard.{Shard};
 ghost use Rattle.hcc_shard.specs.Counted.{CountsPinned};
 ghost use Rattle.hcc_cache.specs.declared.cache.Cache.{Cache};
 ghost use Rattle.hcc_cache.specs.declared.client.Client.{Client};
+ghost use Rattle.hcc_cache.specs.declared.priority.Priority.{Priority};
 ghost use Rattle.hcc_cache.specs.declared.seeded.Seeded.{Seeded};
 ghost use Rattle.hcc_cache.specs.Calls.{ErasesListed};
+ghost use Rattle.hcc_cache.specs.Inserts.{draft_of, PinsAtListed, StoresAtListed};
 ghost use Rattle.hcc_cache.specs.Keys.{fits_seeded};
 ghost use Rattle.hcc_cache.specs.Known.{Knows};
+ghost use Rattle.hcc_cache.specs.Met.{MetAs, MetPinnedAs};
 ghost use Rattle.hcc_cache.specs.Moments.{KnowsShown};
 ghost use Rattle.hcc_cache.specs.Sharding.{key_to};
 ghost use Rattle.hcc_cache.specs.Since.{IsTakenBetween};
@@ -66,4 +72,25 @@ pub fn law_erased<T: Tag>()
         (hidden : ℕ) (old new : Client T) → Knows cache old
         → ErasesListed cache T.fits key room hidden old new → (k : KnowsShown cache key old)
         → IsTakenBetween cache key old new k }
+{}
+
+/// An insertion meets what stands through its tries.
+pub fn law_met<T: Tag>()
+    // At moments of the tries, which begin once its reservation has ended. Placed: each slot of an
+    // earlier probe lacked the key. Dropped, though a place was reserved: where it met an entry of
+    // the key, the slot where it did so showed that, and each slot of an earlier probe lacked the
+    // key; else each slot of the shard lacked it, and was taken. Dropped without a place, or
+    // refused for a place: none was left right before it asked for one.
+    ensures stores { (cache : Cache T) (key : Key) (charge : ℕ) (priority : Priority)
+        (had has : Bool) (answer : Result Stored Refused) (old new : Client T)
+        (h : StoresAtListed cache T.fits key charge priority had has answer old new)
+        → MetAs T.fits h.shard (draft_of cache key charge priority (λ c. None) old) had has answer
+        h.was h.is h.did }
+
+    // The same of one that gives a handle, on a standalone entry where that is dropped.
+    ensures pins { (cache : Cache T) (key : Key) (charge : ℕ) (priority : Priority)
+        (had has : Bool) (answer : Result Pinned Refused) (old new : Client T)
+        (h : PinsAtListed cache T.fits key charge priority had has answer old new)
+        → MetPinnedAs T.fits h.shard (draft_of cache key charge priority (λ c. Some c.used) old)
+        had has answer h.was h.is h.did }
 {}
