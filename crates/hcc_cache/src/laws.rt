@@ -57,7 +57,7 @@ ghost use Rattle.hcc_cache.specs.Opened.{IsCacheOf};
 ghost use Rattle.hcc_cache.specs.Reopened.{IsReopened};
 ghost use Rattle.hcc_cache.specs.Room.{HasRoom, HasRoomBeside, KeepsAs, KeepsPinnedAs, TurnsNone};
 ghost use Rattle.hcc_cache.specs.Sharding.{key_to, shard_of};
-ghost use Rattle.hcc_cache.specs.Since.{GoesOnAt, IsTakenByOther, IsTakenSince};
+ghost use Rattle.hcc_cache.specs.Since.{is_hide, GoesOnAt, IsHeldThrough, IsHiddenByOther, IsTakenByOther, IsTakenSince};
 ghost use Rattle.hcc_cache.specs.Stays.{BeganEachWithin, ReleasesIn, ReleasesPin, Stays, StaysWhereStanding};
 ghost use Rattle.hcc_cache.specs.Taken.{split_of};
 ghost use Rattle.hcc_cache.specs.Totals.{occupancy_in, usage_in, KnowsEach, LoadsEachOccupancy, LoadsEachUsage};
@@ -223,6 +223,22 @@ pub fn law_lookups<T: Tag>()
         → GetsAt cache T.fits key useful Miss before after old new
         → (k : KnowsShown cache key old) → IsTakenByOther cache key old new k }
 
+    // What somebody holds is found, unless it is hidden. One that misses what its client knew to be
+    // shown, where somebody, this client or another one, held a reference on that slot and gave it
+    // back by none of the events that came meanwhile: another client hid the entry. No eviction
+    // and no release takes it.
+    ensures pinned { (cache : Cache T) → BeganEachWithin cache T.fits → (key : Key)
+        (old new : Client T) → Knows cache old → SearchesFor cache T.fits key None old new
+        → (k : KnowsShown cache key old) (g : GoesOnAt (shard_in cache key) old new)
+        → IsHeldThrough cache key old k g.more → IsHiddenByOther cache key old new k }
+
+    // So it is of a read by a key that misses.
+    ensures pinned_unread { (cache : Cache T) → BeganEachWithin cache T.fits → (key : Key)
+        (useful : Bool) (before after : List ℕ) (old new : Client T) → Knows cache old
+        → GetsAt cache T.fits key useful Miss before after old new
+        → (k : KnowsShown cache key old) (g : GoesOnAt (shard_in cache key) old new)
+        → IsHeldThrough cache key old k g.more → IsHiddenByOther cache key old new k }
+
     // In a cache of one client a look-up misses where the world that the client knows of the shard
     // when the call begins shows the key in no slot, else it finds the slot of the earliest probe
     // that shows it.
@@ -277,6 +293,12 @@ pub fn law_shown_since<T: Tag>()
         (old new : Client T) (g : GoesOnAt (shard_in cache key) old new)
         (k : KnowsShown cache key old) (t : IsTakenSince cache key old k g.more)
         → shown_at (world_at k.shard.table g.is.seat) k.slot ≢ Some t.entry }
+
+    // Where somebody held a reference on the slot through these events, it was hidden.
+    ensures held { (cache : Cache T) → BeganEachWithin cache T.fits → (key : Key)
+        (old : Client T) (k : KnowsShown cache key old) (more : List Done)
+        (t : IsTakenSince cache key old k more) → IsHeldThrough cache key old k more
+        → is_hide t.taken.done.event ≡ true }
 
     // After a call that makes and takes no entry, and shows and hides none, as those that
     // `law_kept_shown` names, that event is another client's.

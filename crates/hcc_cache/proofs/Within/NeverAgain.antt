@@ -1,4 +1,4 @@
--- What was taken away from a slot it never shows again.
+-- What was taken away from a slot it never shows again; and what somebody held was hidden.
 use Rattle.std.proofs.Common.{◌≡◌, ◌≢◌, ◌⊎◌, inl, inr, ℕ, ◌<◌, Bool, true, false, cond, List, [], ◌∷◌, Option, Some, None, Result, Ok, Err, slice_get, refl, sym, ap, subst, ◌∙◌, arith}
 use Rattle.std.specs.Prelude.{option_and_then}
 use Rattle.std.proofs.lemmas.Bool.{cases_eq}
@@ -13,7 +13,7 @@ use Rattle.hcc_core.specs.declared.slot.Slot.TheVariants as slots
 use Rattle.hcc_core.specs.Entries.{free_of, hide_of, may_free, slot_hidden}
 use Rattle.hcc_core.specs.Lawful.{Lawful, owned_by, owner_in, stamp_in, stamps_by}
 use Rattle.hcc_core.specs.Outcomes.{◌>>=◌, Outcome, allow, holding, live_at, slot_at}
-use Rattle.hcc_core.specs.Runs.{after, after_all, entry_at, entry_of, world_after}
+use Rattle.hcc_core.specs.Runs.{after, after_all, entry_at, entry_held, entry_of, held_at, world_after}
 use Rattle.hcc_core.specs.Shown.{entry_shown, shown_at}
 use Rattle.hcc_core.specs.Steps.{in_range, outcome_of, rule_of}
 use Rattle.hcc_core.specs.World.{State, slot_holding}
@@ -76,6 +76,11 @@ module _ (slot : ℕ) where
   Unshows (Ok done) = shown_at done.1 slot ≡ None
   Unshows (Err error) = Unit {0}
 
+  -- nobody holds anything there
+  abbrev Bares : Outcome → Type 0
+  Bares (Ok done) = (client name : ℕ) → held_at done.1 client name slot ≡ None
+  Bares (Err error) = Unit {0}
+
 -- a reading on the way, and what it found
 chain : (P : Outcome → Type 0) → ((error : CoreError) → P (Err error)) → {A : Type 0}
     (r : Result A CoreError) (f : A → Outcome) → ((x : A) → r ≡ Ok x → P (f x)) → P (r >>= f)
@@ -119,6 +124,19 @@ module _ (w : State) (slot : ℕ) where
       chain (Unshows slot) (λ e. tt) (allow (may_free client found seen name)) _ (λ u may.
       ap (option_and_then entry_shown)
       (read_here w.slots slot seen (slots.Building client 0) (found_ok _ _ seen at)))))
+
+  free_bares : (client : ℕ) (name : Option ℕ) → Bares slot (free_of w client slot name)
+  unfolding free_of
+  free_bares client name =
+      chain (Bares slot) (λ e. tt) (slot_at w slot) _ (λ seen at.
+      chain (Bares slot) (λ e. tt) (live_at w client) _ (λ found live.
+      chain (Bares slot) (λ e. tt) (allow (may_free client found seen name)) _ (λ u may c n.
+      subst (λ o. option_and_then (entry_held c n) o ≡ None)
+      (sym (read_here w.slots slot seen (slots.Building client 0) (found_ok _ _ seen at)))
+      (none_held c n client))))
+    where
+      none_held : (c n client : ℕ) → entry_held c n (slots.Building client 0) ≡ None
+      none_held c n client = refl
 
 -- Never again.
 
@@ -204,3 +222,20 @@ never_again w l slot entry more t shows =
     last : after_all w (events_of more) ≡ after_all (after at t.done.event) (events_of t.rest)
     last =
         ap (λ ds. after_all w (events_of ds)) t.is ∙ after_more t.before (t.done ∷ t.rest) w
+
+-- Held.
+
+-- a free that took an entry away left nothing that anybody could hold
+pub freed_bare : (w : State) (slot : ℕ) (entry : Entry) → shown_at w slot ≡ Some entry
+    → (client freed : ℕ) (name : Option ℕ) → freed ≡ slot
+    → shown_at (after w (events.Free client freed name)) slot ≡ None
+    → (c n : ℕ) → held_at (after w (events.Free client freed name)) c n slot ≡ None
+freed_bare w slot entry shown client freed name here =
+    by (outcome_of w (events.Free client freed name))
+    (judged (Bares slot) (λ e. tt) w (events.Free client freed name)
+    (subst (λ s. Bares slot (free_of w client s name)) (sym here) (free_bares w slot client name)))
+  where
+    by : (outcome : Outcome) → Bares slot outcome → shown_at (world_after w outcome) slot ≡ None
+        → (c n : ℕ) → held_at (world_after w outcome) c n slot ≡ None
+    by (Ok done) bares gone = bares
+    by (Err error) bares gone = let bad : None ≡ Some entry = sym gone ∙ shown in cc

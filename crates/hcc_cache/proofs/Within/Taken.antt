@@ -1,11 +1,19 @@
--- What a client knew to be shown, and what lacked it at a moment of its call.
-use Rattle.std.proofs.Common.{◌≡◌, ◌≢◌, inl, inr, ℕ, ◌<◌, List, ◌++◌, Some, slice_get, sym, ap, subst, ◌∙◌}
+-- What a client knew to be shown, and what lacked it at a moment of its call, or held it meanwhile.
+use Rattle.std.proofs.Common.{◌≡◌, ◌≢◌, inl, inr, ℕ, ◌<◌, Bool, true, false, List, [], ◌∷◌, ◌++◌, Some, None, slice_get, refl, sym, ap, subst, ◌∙◌}
+use Rattle.std.specs.List.{list_any}
 use Rattle.std.specs.Prelude.{IsSomeAnd}
+use Rattle.std.proofs.lemmas.Bool.{or_from, or_parts}
 use Rattle.std.proofs.lemmas.List.{append_assoc}
 use Rattle.std.proofs.lemmas.Option.{same_Some}
 use Rattle.std.specs.declared.alloc.Global.{Global}
+use Rattle.hcc_core.specs.declared.event.Event.{Event}
 use Rattle.hcc_core.specs.declared.event.Event.TheVariants as events
 use Rattle.hcc_core.specs.declared.slot.Entry.{Entry}
+use Rattle.hcc_core.specs.Lawful.{Lawful}
+use Rattle.hcc_core.specs.Runs.{after, after_all, held_at, takes_away}
+use Rattle.hcc_core.specs.Shown.{TakesShown}
+use Rattle.hcc_core.specs.World.{State}
+use Rattle.hcc_core.proofs.EveryRun.{lawful_all, stands_all}
 use Rattle.hcc_rule.specs.declared.geometry.Geometry.{Geometry}
 use Rattle.hcc_rule.specs.declared.key.Key.{Key}
 use Rattle.hcc_rule.specs.declared.view.Done.{Done}
@@ -13,6 +21,7 @@ use Rattle.hcc_rule.specs.Acts.{events_of, past, world_of}
 use Rattle.hcc_rule.specs.Callers.{plan_of, slots_of, world_at}
 use Rattle.hcc_rule.specs.Opening.{begun_world}
 use Rattle.hcc_rule.specs.Seats.{IsPlanned}
+use Rattle.hcc_rule.specs.Shown.{IsTakenAway}
 use Rattle.hcc_rule.specs.Words.{key_of}
 use Rattle.hcc_rule.proofs.Seats.Histories.{after_more}
 use Rattle.hcc_rule.proofs.Seats.Runs.{run_lawful}
@@ -22,6 +31,7 @@ use Rattle.hcc_table.specs.Still.{BeganWithin}
 use Rattle.hcc_table.proofs.Moments.{some_and}
 use Rattle.hcc_shard.specs.declared.seat.ShardSeat.{ShardSeat}
 use Rattle.hcc_shard.specs.declared.shard.Shard.{Shard}
+use Rattle.hcc_shard.specs.Ended.{past_of}
 use Rattle.hcc_cache.specs.declared.cache.Cache.{Cache}
 use Rattle.hcc_cache.specs.declared.client.Client.{Client}
 use Rattle.hcc_cache.specs.declared.seeded.Seeded.{Seeded}
@@ -30,12 +40,12 @@ use Rattle.hcc_cache.specs.Keys.{fits_seeded}
 use Rattle.hcc_cache.specs.Known.{Knows}
 use Rattle.hcc_cache.specs.Moments.{KnowsShown}
 use Rattle.hcc_cache.specs.Sharding.{key_to}
-use Rattle.hcc_cache.specs.Since.{GoesOnAt, IsTakenBetween, IsTakenSince}
+use Rattle.hcc_cache.specs.Since.{GoesOnAt, IsHeldThrough, IsHiddenByOther, IsTakenBetween, IsTakenByOther, IsTakenSince, is_hide}
 use Rattle.hcc_cache.specs.Stays.{BeganEachWithin}
 use Rattle.hcc_cache.specs.Within.{LacksWithin}
 use Rattle.hcc_cache.proofs.Clients.ShownSince.{taken_more}
 use Rattle.hcc_cache.proofs.Insertions.PlacedShown.{planned}
-use Rattle.hcc_cache.proofs.Within.NeverAgain.{never_again}
+use Rattle.hcc_cache.proofs.Within.NeverAgain.{freed_bare, never_again}
 
 module _ {T : Type 0} (fits : T → Key → List ℕ → Type 0) (cache : Cache T)
     (began : BeganEachWithin cache fits) (key : Key) (old new : Client T)
@@ -134,3 +144,83 @@ module _ {T : Type 0} (fits : T → Key → List ℕ → Type 0) (cache : Cache 
         sized =
             ap (λ (x : Geometry). x.slots)
             (knows.alike.plans (shard_in cache key) shard shard_is).0
+
+-- two lists that go on from one are the same
+same_rest : {X : Type 0} (xs ys zs : List X) → xs ++ ys ≡ xs ++ zs → ys ≡ zs
+same_rest [] ys zs same = same
+same_rest (x ∷ xs) ys zs same = let rest : xs ++ ys ≡ xs ++ zs = cc in same_rest xs ys zs rest
+
+-- what none of some events does neither a front of them does nor the next one
+none_before : (q : Event → Bool) (before : List Done) (done : Done) (rest : List Done)
+    → list_any q (events_of (before ++ done ∷ rest)) ≡ false
+    → (list_any q (events_of before) ≡ false) × (q done.event ≡ false)
+none_before q [] done rest none = (refl, (or_parts (q done.event) _ none).0)
+none_before q (d ∷ ds) done rest none =
+    let parts = or_parts (q d.event) _ none in
+    let later = none_before q ds done rest parts.1 in
+    (or_from (q d.event) _ parts.0 later.0, later.1)
+
+-- What somebody held through these events was hidden.
+module _ {T : Type 0} (fits : T → Key → List ℕ → Type 0) (cache : Cache T)
+    (began : BeganEachWithin cache fits) (key : Key) (old new : Client T)
+    (k : KnowsShown cache key old) where
+  module _ (more : List Done) (t : IsTakenSince cache key old k more)
+      (held : IsHeldThrough cache key old k more) where
+    abbrev took : IsTakenAway k.slot t.entry (world_at k.shard.table k.seat.seat) more
+    took = t.taken
+
+    abbrev at : State
+    at = after_all (world_at k.shard.table k.seat.seat) (events_of took.before)
+
+    first : Lawful (world_at k.shard.table k.seat.seat)
+    first =
+        run_lawful (fits_seeded fits) (plan_of k.shard.table)
+        (planned (fits_seeded fits) k.shard.table (began (shard_in cache key) k.shard k.shard_is))
+        (began (shard_in cache key) k.shard k.shard_is) (events_of (past k.seat.seat))
+
+    -- the holder held it behind the event that took it away
+    held_then : held_at (after at took.done.event) held.holder held.name k.slot ≡ Some held.entry
+    held_then =
+        let none = none_before (takes_away held.holder held.name) took.before took.done took.rest
+        (subst (λ ds. list_any (takes_away held.holder held.name) (events_of ds) ≡ false) took.is
+        held.kept) in
+        stands_all (took.done.event ∷ []) held.holder held.name k.slot held.entry
+        (lawful_all (events_of took.before) (world_at k.shard.table k.seat.seat) first)
+        (or_from (takes_away held.holder held.name took.done.event) false none.1 refl)
+        (stands_all (events_of took.before) held.holder held.name k.slot held.entry first none.0
+        held.there)
+
+    by : (event : Event) → TakesShown k.slot at event → shown_at (after at event) k.slot ≡ None
+        → held_at (after at event) held.holder held.name k.slot ≡ Some held.entry
+        → is_hide event ≡ true
+    by (events.Hide client name) takes gone there = refl
+    by (events.Free client freed name) takes gone there =
+        let bare = freed_bare at k.slot t.entry took.shown client freed name takes gone held.holder
+        held.name in
+        let bad : None ≡ Some held.entry = sym bare ∙ there in
+        cc
+    by other takes gone there = absurd takes
+
+    pub held_hidden : is_hide took.done.event ≡ true
+    held_hidden = by took.done.event took.takes took.gone held_then
+
+  -- So it is of what another client took until a call ended.
+  pub hidden_by_other : (t : IsTakenByOther cache key old new k)
+      (g : GoesOnAt (shard_in cache key) old new) → IsHeldThrough cache key old k g.more
+      → IsHiddenByOther cache key old new k
+  hidden_by_other t g held = record {
+    taken = t;
+    hid = held_hidden t.goes.more t.since (subst (IsHeldThrough cache key old k) same held);
+  }
+    where
+      was : g.was ≡ t.goes.was
+      was = same_Some _ _ (sym g.seat_was ∙ t.goes.seat_was)
+
+      is : g.is ≡ t.goes.is
+      is = same_Some _ _ (sym g.seat_is ∙ t.goes.seat_is)
+
+      same : g.more ≡ t.goes.more
+      same =
+          same_rest (past_of g.was) g.more t.goes.more
+          (sym g.goes_on ∙ ap past_of is ∙ t.goes.goes_on
+          ∙ ap (λ (q : ShardSeat (Seeded T)). past_of q ++ t.goes.more) (sym was))
