@@ -4,6 +4,7 @@ pub mod HoldsTheSame
 pub mod DoneAtAllShards
 pub mod ChargesBounded
 pub mod FoundAtEachShard
+pub mod LoadedTotals
 pub mod ShownAfterwards
 pub mod ShownSince
 pub mod Unerased

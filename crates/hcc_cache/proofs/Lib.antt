@@ -5,5 +5,6 @@ pub mod Searches
 pub mod Insertions
 pub mod HandedBack
 pub mod Beginnings
+pub mod Within
 pub mod Endings
 pub mod Images

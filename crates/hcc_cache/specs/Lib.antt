@@ -10,6 +10,7 @@ pub mod Known
 pub mod Opened
 pub mod Moments
 pub mod Since
+pub mod Within
 pub mod Calls
 pub mod Gone
 pub mod Objects
@@ -17,6 +18,7 @@ pub mod Left
 pub mod Closings
 pub mod Ended
 pub mod Inserts
+pub mod Met
 pub mod ObjectInserts
 pub mod ObjectConfigs
 pub mod ObjectsOpened

@@ -1,5 +1,5 @@
 -- Which caches of objects can be made, and which refusal is told.
-use Rattle.std.specs.Prelude.{◌≡◌, ◌≤◌, Result, Ok, Err, if◌then◌else◌}
+use Rattle.std.specs.Prelude.{◌≤◌, Result, Ok, Err, if◌then◌else◌}
 use Rattle.hcc_cache.specs.declared.config.Config.{Config}
 use Rattle.hcc_cache.specs.declared.errors.NewError.{NewError}
 use Rattle.hcc_cache.specs.declared.errors.ObjectNewError.{ObjectNewError}

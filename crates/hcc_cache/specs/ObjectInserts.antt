@@ -6,7 +6,7 @@ use Rattle.hcc_word.specs.declared.objects.TheConstants.{ADDRESS_BITS}
 use Rattle.hcc_cache.specs.declared.errors.InsertError.{InsertError}
 use Rattle.hcc_cache.specs.declared.errors.InsertError.TheVariants as plain
 use Rattle.hcc_cache.specs.declared.errors.ObjectError.{ObjectError}
-use Rattle.hcc_cache.specs.declared.errors.ObjectError.TheVariants.{HandlesFull, Spent, GoneFull, TooHigh, TooLarge, CapacityFull, OccupancyFull}
+use Rattle.hcc_cache.specs.declared.errors.ObjectError.TheVariants.{HandlesFull, Spent, TooHigh, TooLarge, CapacityFull, OccupancyFull}
 use Rattle.hcc_cache.specs.declared.handle.Handle.{Handle}
 use Rattle.hcc_cache.specs.declared.inserting.Inserted.{Inserted}
 use Rattle.hcc_cache.specs.declared.inserting.Inserted.TheVariants as inserted

@@ -1,9 +1,14 @@
 -- What a client knows of a shard later, and what of it was taken away since.
-use Rattle.std.specs.Prelude.{◌≡◌, ◌≢◌, ℕ, List, ◌++◌, Some, slice_get}
+use Rattle.std.specs.Prelude.{◌≡◌, ◌≢◌, ℕ, Bool, true, false, List, ◌++◌, Some, slice_get}
+use Rattle.std.specs.List.{list_any}
+use Rattle.hcc_core.specs.declared.event.Event.{Event}
+use Rattle.hcc_core.specs.declared.event.Event.TheVariants as events
 use Rattle.hcc_core.specs.declared.slot.Entry.{Entry}
+use Rattle.hcc_core.specs.Runs.{held_at, takes_away}
+use Rattle.hcc_core.specs.Shown.{shown_at}
 use Rattle.hcc_rule.specs.declared.key.Key.{Key}
 use Rattle.hcc_rule.specs.declared.view.Done.{Done}
-use Rattle.hcc_rule.specs.Acts.{client_by}
+use Rattle.hcc_rule.specs.Acts.{client_by, events_of}
 use Rattle.hcc_rule.specs.Callers.{world_at}
 use Rattle.hcc_rule.specs.Shown.{IsTakenAway}
 use Rattle.hcc_rule.specs.Words.{key_of}
@@ -25,6 +30,11 @@ pub record GoesOnAt {T : Type 0} (number : ℕ) (old new : Client T) : Type 0 wh
   pub more : List Done
   pub goes_on : past_of is ≡ past_of was ++ more
 
+-- whether it is a hide
+abbrev pub is_hide : Event → Bool
+is_hide (events.Hide client name) = true
+is_hide other = false
+
 module _ {T : Type 0} (cache : Cache T) (key : Key) where
   -- One of these events took away the entry of the key that the client knew to be shown: a hide by
   -- a reference on its slot, or a free of that. Until then the slot showed the entry.
@@ -39,3 +49,25 @@ module _ {T : Type 0} (cache : Cache T) (key : Key) where
     pub goes : GoesOnAt (shard_in cache key) old new
     pub since : IsTakenSince old k goes.more
     pub other : client_by since.taken.done.event ≢ old.number
+
+  -- So it was, by an event among those by which what the client knows went on, its own or that of
+  -- another client: at the end the slot doesn't show that entry.
+  pub record IsTakenBetween (old new : Client T) (k : KnowsShown cache key old) : Type 0 where
+    pub goes : GoesOnAt (shard_in cache key) old new
+    pub since : IsTakenSince old k goes.more
+    pub gone : shown_at (world_at k.shard.table goes.is.seat) k.slot ≢ Some since.entry
+
+  -- Somebody held a reference on the slot in the world that the client knew at first, and gave or
+  -- used it by none of these events, nor freed the slot by it.
+  pub record IsHeldThrough (old : Client T) (k : KnowsShown cache key old) (more : List Done)
+      : Type 0 where
+    pub holder : ℕ
+    pub name : ℕ
+    pub entry : Entry
+    pub there : held_at (world_at k.shard.table k.seat.seat) holder name k.slot ≡ Some entry
+    pub kept : list_any (takes_away holder name) (events_of more) ≡ false
+
+  -- Another client took the entry away, and it did so by a hide.
+  pub record IsHiddenByOther (old new : Client T) (k : KnowsShown cache key old) : Type 0 where
+    pub taken : IsTakenByOther old new k
+    pub hid : is_hide taken.since.taken.done.event ≡ true

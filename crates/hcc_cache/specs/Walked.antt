@@ -1,5 +1,5 @@
 -- What a walk over the slots of a cache of objects comes to at each.
-use Rattle.std.specs.Prelude.{◌≡◌, ℕ, ◌<◌, Bool, List, None, Option, Some, length, take}
+use Rattle.std.specs.Prelude.{◌≡◌, ℕ, ◌<◌, Bool, None, Option, Some, length, take}
 use Rattle.hcc_rule.specs.declared.view.View.{View}
 use Rattle.hcc_table.specs.Lists.{Shelf}
 use Rattle.hcc_shard.specs.Kept.{IsPassed, WalksAt}

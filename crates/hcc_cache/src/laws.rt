@@ -2,7 +2,7 @@
 //!
 //! No function here does anything when it runs: its contract is the law. `m.holds.world` is the
 //! lawful world that the shard's words and what its clients know show.
-ghost use Rattle.std.specs.Prelude.{◌≡◌, ◌⊎◌, ℕ, ◌+◌, ◌-◌, ◌*◌, ◌/◌, ◌^◌, ◌<◌, ◌≤◌, ◌↔◌, ◌++◌, min, Bool, true, false, List, Option, None, Some, Ok, Result, IsNone, IsOk, IsSome, slice_get};
+ghost use Rattle.std.specs.Prelude.{◌≡◌, ◌≢◌, ◌⊎◌, ℕ, ◌+◌, ◌-◌, ◌*◌, ◌/◌, ◌^◌, ◌<◌, ◌≤◌, ◌↔◌, ◌++◌, min, Bool, true, false, List, Option, None, Some, Ok, Result, IsNone, IsOk, IsSome, slice_get};
 ghost use Rattle.hcc_core.specs.declared.limits.TheConstants.{OCCUPANCY_PERCENT};
 ghost use Rattle.std.specs.List.{list_any};
 ghost use Rattle.hcc_core.specs.declared.slot.Entry.{Entry};
@@ -32,7 +32,7 @@ ghost use Rattle.hcc_shard.specs.declared.inserting.Inserted.{Inserted as Stored
 ghost use Rattle.hcc_shard.specs.declared.inserting.Inserted.TheVariants as stored;
 ghost use Rattle.hcc_shard.specs.declared.inserting.Pinned.{Pinned};
 ghost use Rattle.hcc_shard.specs.declared.inserting.Pinned.TheVariants as pinned;
-ghost use Rattle.hcc_table.specs.Standing.{FindsFirst, FindsLasting, HidesShown, ShowsKey};
+ghost use Rattle.hcc_table.specs.Standing.{shown_at, FindsFirst, FindsLasting, HidesShown, ShowsKey};
 ghost use Rattle.hcc_cache.specs.declared.cache.Cache.{Cache};
 ghost use Rattle.hcc_cache.specs.declared.client.Client.{Client};
 ghost use Rattle.hcc_cache.specs.declared.config.Config.{Config};
@@ -57,7 +57,7 @@ ghost use Rattle.hcc_cache.specs.Opened.{IsCacheOf};
 ghost use Rattle.hcc_cache.specs.Reopened.{IsReopened};
 ghost use Rattle.hcc_cache.specs.Room.{HasRoom, HasRoomBeside, KeepsAs, KeepsPinnedAs, TurnsNone};
 ghost use Rattle.hcc_cache.specs.Sharding.{key_to, shard_of};
-ghost use Rattle.hcc_cache.specs.Since.{GoesOnAt, IsTakenByOther, IsTakenSince};
+ghost use Rattle.hcc_cache.specs.Since.{is_hide, GoesOnAt, IsHeldThrough, IsHiddenByOther, IsTakenByOther, IsTakenSince};
 ghost use Rattle.hcc_cache.specs.Stays.{BeganEachWithin, ReleasesIn, ReleasesPin, Stays, StaysWhereStanding};
 ghost use Rattle.hcc_cache.specs.Taken.{split_of};
 ghost use Rattle.hcc_cache.specs.Totals.{occupancy_in, usage_in, KnowsEach, LoadsEachOccupancy, LoadsEachUsage};
@@ -223,6 +223,22 @@ pub fn law_lookups<T: Tag>()
         → GetsAt cache T.fits key useful Miss before after old new
         → (k : KnowsShown cache key old) → IsTakenByOther cache key old new k }
 
+    // What somebody holds is found, unless it is hidden. One that misses what its client knew to be
+    // shown, where somebody, this client or another one, held a reference on that slot and gave it
+    // back by none of the events that came meanwhile: another client hid the entry. No eviction
+    // and no release takes it.
+    ensures pinned { (cache : Cache T) → BeganEachWithin cache T.fits → (key : Key)
+        (old new : Client T) → Knows cache old → SearchesFor cache T.fits key None old new
+        → (k : KnowsShown cache key old) (g : GoesOnAt (shard_in cache key) old new)
+        → IsHeldThrough cache key old k g.more → IsHiddenByOther cache key old new k }
+
+    // So it is of a read by a key that misses.
+    ensures pinned_unread { (cache : Cache T) → BeganEachWithin cache T.fits → (key : Key)
+        (useful : Bool) (before after : List ℕ) (old new : Client T) → Knows cache old
+        → GetsAt cache T.fits key useful Miss before after old new
+        → (k : KnowsShown cache key old) (g : GoesOnAt (shard_in cache key) old new)
+        → IsHeldThrough cache key old k g.more → IsHiddenByOther cache key old new k }
+
     // In a cache of one client a look-up misses where the world that the client knows of the shard
     // when the call begins shows the key in no slot, else it finds the slot of the earliest probe
     // that shows it.
@@ -271,6 +287,18 @@ pub fn law_shown_since<T: Tag>()
         (old new : Client T) (g : GoesOnAt (shard_in cache key) old new)
         (k : KnowsShown cache key old)
         → KnowsShown cache key new ⊎ IsTakenSince cache key old k g.more }
+
+    // What was taken away so its slot doesn't show again.
+    ensures gone { (cache : Cache T) → BeganEachWithin cache T.fits → (key : Key)
+        (old new : Client T) (g : GoesOnAt (shard_in cache key) old new)
+        (k : KnowsShown cache key old) (t : IsTakenSince cache key old k g.more)
+        → shown_at (world_at k.shard.table g.is.seat) k.slot ≢ Some t.entry }
+
+    // Where somebody held a reference on the slot through these events, it was hidden.
+    ensures held { (cache : Cache T) → BeganEachWithin cache T.fits → (key : Key)
+        (old : Client T) (k : KnowsShown cache key old) (more : List Done)
+        (t : IsTakenSince cache key old k more) → IsHeldThrough cache key old k more
+        → is_hide t.taken.done.event ≡ true }
 
     // After a call that makes and takes no entry, and shows and hides none, as those that
     // `law_kept_shown` names, that event is another client's.

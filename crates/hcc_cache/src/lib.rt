@@ -34,6 +34,7 @@ mod reading;
 mod releasing;
 mod reopening;
 mod seeded;
+pub mod shared;
 mod tags;
 mod totals;
 

@@ -1,7 +1,7 @@
 -- What a new cache of objects knows of its clients.
-use Rattle.std.proofs.Common.{◌≡◌, ◌∙◌, ℕ, ◌+◌, ◌-◌, ◌≤◌, List, [], None, Some, get_or, length, map, option_map, slice_get, sym, ap, subst, arith}
+use Rattle.std.proofs.Common.{◌≡◌, ◌∙◌, List, None, Some, get_or, option_map, slice_get, sym, ap, subst, arith}
 use Rattle.std.proofs.lemmas.Option.{slice_get-map}
-use Rattle.slab.specs.Slab.{get, slab_len}
+use Rattle.slab.specs.Slab.{slab_len}
 use Rattle.hcc_core.specs.Sums.{total}
 use Rattle.hcc_rule.specs.declared.geometry.Geometry.{Geometry}
 use Rattle.hcc_cache.specs.declared.client.Client.{Client}
@@ -10,7 +10,7 @@ use Rattle.hcc_cache.specs.declared.object_cache.ObjectCache.{ObjectCache}
 use Rattle.hcc_cache.specs.declared.object_cache.ObjectClient.{ObjectClient}
 use Rattle.hcc_cache.specs.declared.object_opening.ObjectConfig.{ObjectConfig}
 use Rattle.hcc_cache.specs.ObjectConfigs.{plain}
-use Rattle.hcc_cache.specs.Objects.{KnowsObjects, client_of}
+use Rattle.hcc_cache.specs.Objects.{client_of}
 use Rattle.hcc_cache.specs.ObjectsOpened.{AreListed, IsOpenedFor}
 use Rattle.hcc_cache.specs.Opened.{IsOpened}
 use Rattle.hcc_cache.proofs.Basics.SlabSums.{len_total, one_of}

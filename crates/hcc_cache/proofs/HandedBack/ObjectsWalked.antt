@@ -1,5 +1,5 @@
 -- What a walk over a closed cache of objects has left.
-use Rattle.std.proofs.Common.{◌≡◌, ◌∙◌, ◌⊎◌, inl, inr, ℕ, zero, suc, ◌+◌, ◌-◌, ◌<◌, ◌≤◌, List, [], ◌∷◌, ◌++◌, Option, None, Some, Bool, true, false, drop, get_or, flat_map, length, slice_get, sym, refl, ap, add-one, arith, if◌then◌else◌}
+use Rattle.std.proofs.Common.{◌≡◌, ◌∙◌, ◌⊎◌, inl, inr, ℕ, suc, ◌+◌, ◌-◌, ◌<◌, ◌≤◌, [], ◌∷◌, Option, None, Some, Bool, true, false, get_or, length, slice_get, sym, refl, ap, add-one, arith, if◌then◌else◌}
 use Rattle.std.proofs.lemmas.List.{drop_all}
 use Rattle.std.proofs.lemmas.Option.{same_Some, slice_get_cases, slice_get_past}
 use Rattle.std.specs.declared.alloc.Global.{Global}
@@ -9,7 +9,7 @@ use Rattle.hcc_shard.specs.declared.entries.ClosedShard.{ClosedShard}
 use Rattle.hcc_cache.specs.declared.closed.Closed.{Closed}
 use Rattle.hcc_cache.specs.declared.objects.Object.{Object}
 use Rattle.hcc_cache.specs.Left.{slots_at}
-use Rattle.hcc_cache.specs.ObjectsLeft.{ObjectAt, left_at, object_at, objects_in, objects_of, objects_there}
+use Rattle.hcc_cache.specs.ObjectsLeft.{ObjectAt, left_at, object_at, objects_in, objects_there}
 use Rattle.hcc_cache.proofs.Basics.Lists.{drop_more}
 
 -- Behind the last shard there is none.

@@ -1,12 +1,11 @@
 -- The word of an object, and what a slot has of it.
-use Rattle.std.proofs.Common.{◌≡◌, ◌∙◌, ℕ, ◌+◌, ◌-◌, ◌*◌, ◌/◌, ◌%◌, ◌^◌, ◌<◌, List, [], ◌++◌, length, replicate, sym, ap, arith}
+use Rattle.std.proofs.Common.{◌≡◌, ◌∙◌, ℕ, ◌-◌, ◌<◌, List, [], ◌++◌, length, replicate, sym, ap, arith}
 use Rattle.std.specs.Int.{from_le_bytes, to_le_bytes}
 use Rattle.std.proofs.lemmas.List.{append-nil, take_all}
 use mir.Syntax.{w64}
 use Rattle.hcc_rule.specs.Views.{Each}
 use Rattle.hcc_rule.specs.Words.{payload_word}
 use Rattle.hcc_table.proofs.Bytes.{padded_word}
-use Rattle.hcc_word.specs.declared.objects.TheConstants.{ADDRESS_BITS}
 use Rattle.hcc_cache.specs.Objects.{object_bytes, object_of, object_word}
 
 -- the word of the object of a word

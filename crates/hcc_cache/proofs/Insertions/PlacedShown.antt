@@ -100,7 +100,7 @@ shown_within w key slot shows = by (slice_get w.slots slot) refl shows
 
 module _ {T A : Type 0} (fits : T → Key → List ℕ → Type 0) (table : RuleTable T A)
     (began : BeganWithin table fits) where
-  planned : IsPlanned (plan_of table).geometry (plan_of table).capacity
+  pub planned : IsPlanned (plan_of table).geometry (plan_of table).capacity
   planned =
       subst (λ g. IsPlanned g (plan_of table).capacity) (sym table.planned.0)
       (subst (IsPlanned table.geometry) (sym table.planned.1) table.limits)

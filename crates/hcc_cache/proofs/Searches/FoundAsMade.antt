@@ -21,7 +21,7 @@ use Rattle.hcc_shard.specs.declared.shard.Shard.{Shard}
 use Rattle.hcc_cache.specs.Moments.{HoldsAsShown, IsAsShown}
 
 -- what a slot shows is its entry
-entry_there : (o : Option Slot) (entry : Entry) → option_and_then entry_shown o ≡ Some entry
+pub entry_there : (o : Option Slot) (entry : Entry) → option_and_then entry_shown o ≡ Some entry
     → option_and_then entry_of o ≡ Some entry
 entry_there None entry is = cc
 entry_there (Some (slots.Empty strays)) entry is = cc

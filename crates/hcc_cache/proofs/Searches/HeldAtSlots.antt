@@ -1,5 +1,5 @@
 -- What a walk holds at a slot is what a look-up of its key finds.
-use Rattle.std.proofs.Common.{◌≡◌, ℕ, ◌≤◌, List, [], ◌∷◌, ◌++◌, Bool, true, cond, None, Some, length, refl, sym, ap, subst, ◌∙◌, append_assoc, arith}
+use Rattle.std.proofs.Common.{◌≡◌, ℕ, ◌≤◌, List, [], ◌∷◌, ◌++◌, cond, None, Some, length, refl, ap, subst, ◌∙◌, append_assoc, arith}
 use Rattle.std.proofs.lemmas.Bool.{eq-eqb}
 use Rattle.hcc_core.specs.Sums.{when}
 use Rattle.hcc_core.proofs.SumLemmas.{total-append}
@@ -13,7 +13,7 @@ use Rattle.hcc_rule.specs.Views.{is_called}
 use Rattle.hcc_rule.specs.Words.{key_of}
 use Rattle.hcc_table.specs.declared.pins.Pin.{Pin}
 use Rattle.hcc_table.specs.Pins.{IsOf, IsPinned}
-use Rattle.hcc_table.specs.Searched.{IsFound, IsFoundOn, Searched, Sought, is_key, times_met}
+use Rattle.hcc_table.specs.Searched.{IsFound, IsFoundOn, Sought, is_key, times_met}
 use Rattle.hcc_table.proofs.Keepings.{found_of}
 use Rattle.hcc_table.proofs.Reaches.{find_last}
 use Rattle.hcc_table.proofs.Searches.{read_there, searched_then}

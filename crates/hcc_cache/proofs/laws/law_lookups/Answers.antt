@@ -16,6 +16,7 @@ use Rattle.hcc_shard.proofs.Gettings.{gets_lasting}
 use Rattle.hcc_cache.specs.Sharding.{key_to}
 use Rattle.hcc_cache.proofs.Clients.ShownSince.{missed_taken, none_taken}
 use Rattle.hcc_cache.proofs.Searches.FoundAsMade.{handle_made}
+use Rattle.hcc_cache.proofs.Within.Taken.{hidden_by_other}
 use Rattle.hcc_cache.proofs.laws.law_lookups.Goals as goal
 
 -- With one client a read by a key misses exactly where no slot shows the key when it begins.
@@ -126,3 +127,14 @@ returns-clause-untold g c = λ cache began key useful before after old new knows
     missed_taken g.T.Tag.fits cache began key old k new knows h.shard h.was h.is h.shard_is
     h.seat_was h.seat_is
     (gets_lasting _ h.shard (key_to cache.seed key) useful Miss before after h.was h.is h.did)
+
+pub returns-clause-pinned : goal.returns-clause-pinned
+returns-clause-pinned g c = λ cache began key old new knows h k goes held.
+    hidden_by_other g.T.Tag.fits cache began key old new k
+    (returns-clause-taken g c cache began key old new knows h k) goes held
+
+pub returns-clause-pinned_unread : goal.returns-clause-pinned_unread
+returns-clause-pinned_unread g c = λ cache began key useful before after old new knows h k goes
+    held.
+    hidden_by_other g.T.Tag.fits cache began key old new k
+    (returns-clause-untold g c cache began key useful before after old new knows h k) goes held

@@ -3,11 +3,20 @@ use Rattle.std.proofs.Common.{None, Some, refl}
 use Rattle.hcc_cache.proofs.Beginnings.BegunShown.{taken_shown}
 use Rattle.hcc_cache.proofs.Clients.ShownSince.{shown_since, shown_still}
 use Rattle.hcc_cache.proofs.Insertions.PlacedShown.{put_shown}
+use Rattle.hcc_cache.proofs.Within.Taken.{gone_since, held_hidden}
 use Rattle.hcc_cache.proofs.laws.law_shown_since.Goals as goal
 
 pub returns-clause-since : goal.returns-clause-since
 returns-clause-since g c = λ cache began key old new goes k.
     shown_since g.T.Tag.fits cache began key old k new goes
+
+pub returns-clause-gone : goal.returns-clause-gone
+returns-clause-gone g c = λ cache began key old new goes k t.
+    gone_since g.T.Tag.fits cache began key old new k goes t
+
+pub returns-clause-held : goal.returns-clause-held
+returns-clause-held g c = λ cache began key old k more t held.
+    held_hidden g.T.Tag.fits cache began key old old k more t held
 
 pub returns-clause-stays : goal.returns-clause-stays
 returns-clause-stays g c = λ cache began key old new knows stays k.

@@ -3,17 +3,13 @@ use Rattle.std.specs.Vec.{with_item}
 use Rattle.hcc_rule.specs.declared.geometry.Geometry.{Geometry}
 use Rattle.hcc_rule.specs.declared.view.Record.{Record}
 use Rattle.hcc_rule.specs.Words.{payload_word}
-use Rattle.hcc_table.proofs.Probes.{found_held}
-use Rattle.hcc_shard.specs.Callers.{geometry_of, view_of}
-use Rattle.hcc_shard.proofs.Gettings.{got_pinned}
-use Rattle.hcc_shard.proofs.Names.{not_held}
+use Rattle.hcc_shard.specs.Callers.{geometry_of}
 use Rattle.hcc_cache.specs.declared.client.Client.{Client}
 use Rattle.hcc_cache.specs.declared.holding.Hold.{Hold}
-use Rattle.hcc_cache.specs.Keys.{fits_seeded}
 use Rattle.hcc_cache.specs.Sharding.{shard_of}
 use Rattle.hcc_cache.proofs.Clients.AtOneShard.{ChangesAt, few_at, is_at, next_at, seated_at, takes_at}
 use Rattle.hcc_cache.proofs.HandedBack.AloneAfterwards.{alone_same}
-use Rattle.hcc_cache.proofs.Searches.KnownAfterLookup.{finds, finds_it, knows_more, knows_sought, looks_at, misses}
+use Rattle.hcc_cache.proofs.Searches.KnownAfterLookup.{finds, finds_it, knows_more, knows_sought, misses}
 use Rattle.hcc_cache.proofs.Handles.OneMore.{IsGiven}
 use Rattle.hcc_cache.proofs.cache.Cache.lookup_word.Goals as goal
 

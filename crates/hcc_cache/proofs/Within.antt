@@ -1,0 +1,7 @@
+pub mod Begun
+pub mod Passed
+pub mod Hidden
+pub mod Met
+pub mod NeverAgain
+pub mod Taken
+pub mod Answered
