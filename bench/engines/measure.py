@@ -34,6 +34,7 @@ KEYS, KEY, VALUE = 1_000_000, 16, 240  # a million of so many bytes
 # By this range of exponents db_bench draws about as a Zipf law of 1 does from so many keys.
 EXPONENTS = 14
 WRITTEN = 10 << 20  # bytes a second, beside reads
+OF_TABLES = ".sst", ".ldb"
 
 
 class Cell(NamedTuple):
@@ -115,27 +116,28 @@ def database(engine, block):
 
 def capacity_of(cell):
     """Of the cache: a part of the bytes of the database's tables."""
-    tables = os.scandir(database(cell.engine, cell.block))
-    size = sum(it.stat().st_size for it in tables if it.name.endswith((".sst", ".ldb")))
+    files = os.scandir(database(cell.engine, cell.block))
+    size = sum(it.stat().st_size for it in files if it.name.endswith(OF_TABLES))
     return int(size * PARTS[cell.part])
 
 
-class Opened:
-    """The folder of a cell's database; where it is written to, of a copy, which goes."""
+def copy(file, target):
+    """Tables are never written to again."""
+    (os.link if file.endswith(OF_TABLES) else shutil.copyfile)(file, target)
+
+
+class Copied:
+    """The folder of a copy of a cell's database, which goes: engines write when they open one."""
 
     def __init__(self, cell):
-        self.folder, self.goes = database(cell.engine, cell.block), cell.writes
+        self.whole, self.folder = database(cell.engine, cell.block), built("data/copy")
 
     def __enter__(self):
-        if self.goes:
-            written = built("data/written")
-            shutil.rmtree(written, ignore_errors=True)
-            self.folder = shutil.copytree(self.folder, written)
-        return self.folder
+        shutil.rmtree(self.folder, ignore_errors=True)
+        return shutil.copytree(self.whole, self.folder, copy_function=copy)
 
     def __exit__(self, *_):
-        if self.goes:
-            shutil.rmtree(self.folder)
+        shutil.rmtree(self.folder)
 
 
 # ---- Runs ----------------------------------------------------------------------------------------
@@ -184,7 +186,7 @@ class Player:
             words += [f"--read_random_exp_range={EXPONENTS}"]
         if cell.writes:
             words += [f"--benchmark_write_rate_limit={WRITTEN}", f"--write_buffer_size={8 << 20}"]
-        with Opened(cell) as folder:
+        with Copied(cell) as folder:
             words = db_bench(folder, cell.block, *words)
             text = ran([*through, *words], processors_of(cell, number))
         text = text[text.rindex(f"\n{name} "):]
@@ -195,7 +197,7 @@ class Player:
 
     def leveldb(self, cell, cache, number, through):
         writes = WRITTEN // (KEY + VALUE) if cell.writes else 0
-        with Opened(cell) as folder:
+        with Copied(cell) as folder:
             words = reader("read", folder, cell.block, cache=cache, capacity=capacity_of(cell),
                            law=cell.law, threads=cell.threads, seconds=self.seconds, writes=writes)
             found = json.loads(ran([*through, *words], processors_of(cell, number)))
@@ -215,7 +217,8 @@ def machine():
         model = re.search(r"model name\s*: (.*)", it.read())
     with open(os.path.join(HERE, "../../tests/engines/source.sh"), encoding="utf-8") as it:
         versions = dict(re.findall(r"/(\w+)_([\d.]+)\.orig", it.read()))
-    commit = ran(["git", "-C", HERE, "describe", "--always", "--dirty"]).strip()
+    words = "git", "-C", HERE, "describe", "--always", "--dirty"
+    commit = subprocess.run(words, capture_output=True, text=True, check=False).stdout.strip()
     found = {"model": model[1] if model else os.uname().machine, "commit": commit, **versions}
     return found | {"processors": len(os.sched_getaffinity(0))}
 
