@@ -1,5 +1,5 @@
 // databases.hpp - databases of RocksDB and of LevelDB behind the same few calls, each with a block
-// cache. Values have the size of blocks, or are many to a block; nothing is compressed.
+// cache. Nothing is compressed.
 #ifndef ENGINES_DATABASES_HPP
 #define ENGINES_DATABASES_HPP
 
@@ -52,7 +52,7 @@ struct setup {
     std::string folder;
     std::string cache; // ferretgold, hyper_clock_cache (of RocksDB) or lru_cache
     std::size_t capacity = 0;
-    std::size_t block = 0; // bytes
+    std::size_t block = 0;  // bytes
     std::size_t charge = 0; // of a block, as estimated
 };
 
@@ -93,8 +93,8 @@ class rocks final : public database {
     }
     void get(std::uint64_t key) override {
         rocksdb::PinnableSlice value;
-        must_be_ok(opened_->Get(rocksdb::ReadOptions(), opened_->DefaultColumnFamily(),
-                                key_of(key), &value),
+        must_be_ok(opened_->Get(rocksdb::ReadOptions(), opened_->DefaultColumnFamily(), key_of(key),
+                                &value),
                    "reading");
     }
     void compact() override {

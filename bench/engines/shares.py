@@ -45,7 +45,7 @@ class Recorded:
         text = output("perf", "script", "-i", self.file, "-F", "pid,tid,ip,sym")
         samples = re.findall(r"^\s*(\d+)/(\d+)\s+\S+ (.*)", text, re.M)
         names = [name.strip() for process, thread, name in samples if thread != process]
-        library = set(re.findall(r" [tT] (\S+)$", output("nm", "--defined-only", LIBRARY), re.M))
+        library = set(re.findall(r" [tT] (.+)$", output("nm", "--defined-only", LIBRARY), re.M))
         of_cache = sum(it in library or bool(CLASSES.search(it)) for it in names)
         of_locks = sum(bool(LOCKS.search(it)) for it in names)
         return {name: round(100 * many / max(len(names), 1), 1)
