@@ -7,8 +7,6 @@
 set -u
 cd "$(dirname "$0")/../.." || exit 2
 engine=leveldb
-address=http://deb.debian.org/debian/pool/main/l/leveldb/leveldb_1.23.orig.tar.gz
-sum=9a37f8a6174f09bd622bc723b55881dc541cd50747cbd08831c2a82d620f6d76
 headers=(benchmark/benchmark.h gmock/gmock.h gtest/gtest.h leveldb/cache.h snappy.h)
 packages="libgtest-dev libgmock-dev libbenchmark-dev libsnappy-dev"
 tests=("util/cache_test 9 util/testutil" "db/db_test 57 util/testutil"

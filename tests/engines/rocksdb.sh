@@ -17,8 +17,6 @@
 set -u
 cd "$(dirname "$0")/../.." || exit 2
 engine=rocksdb
-address=http://deb.debian.org/debian/pool/main/r/rocksdb/rocksdb_7.8.3.orig.tar.gz
-sum=b85408a374770897332bf15e51620a5f35720dd416a4749e3899057f9cfaf84d
 headers=(gtest/gtest.h snappy.h ferretgold_rocksdb.hpp)
 packages="libgtest-dev libsnappy-dev, and librocksdb-dev of RocksDB 7.8"
 tests=("cache/cache_test 20 test_util/testharness"

@@ -1,8 +1,8 @@
 # What the scripts of engines' own tests share, sourced at the top of the repository. Each says before
-# what its engine has: `engine` its name, `address` and `sum` of its source, `headers` and `packages`
-# that it wants, `words` and `libraries` to build tests with, and `tests`, files of the source with
-# the number of their tests, and behind that other files that those are linked with. The linker puts
-# ENGINE_caches.cpp in place of the engine's caches, and that says how many were made.
+# what its engine has: `engine` its name, `headers` and `packages` that it wants, `words` and
+# `libraries` to build tests with, and `tests`, files of the source with the number of their tests,
+# and behind that other files that those are linked with. The linker puts ENGINE_caches.cpp in place
+# of the engine's caches, and that says how many were made.
 . tests/shared.sh
 wants_library "$engine"
 wants "$engine" c++
@@ -34,16 +34,14 @@ has_headers() {
 
 # Whether the engine's source can be had. One of another sum is a failure.
 has_source() {
-    curl -sSfL --retry 2 -o "$folder/source.tar" "$address" || {
-        echo "$engine: SKIPPED: there is no curl, or no $address"
+    tests/engines/source.sh "$engine" "$source" > "$folder/out" 2>&1
+    local ended=$?
+    if [[ $ended == 3 ]]; then
+        echo "$engine: SKIPPED: $(tail -n 1 "$folder/out")"
         return 1
-    }
-    tries "its source" unpacked || exit 1
-}
-
-unpacked() {
-    echo "$sum  $folder/source.tar" | sha256sum --check --quiet && mkdir "$source" \
-        && tar -xzf "$folder/source.tar" -C "$source" --strip-components=1
+    fi
+    (exit "$ended")
+    judge "its source" || { cat "$folder/out"; exit 1; }
 }
 
 # Builds and runs a file of so many tests: passes FILE NUMBER OTHER..
