@@ -19,11 +19,12 @@ void *__wrap_malloc(size_t size) {
 }
 
 int main(void) {
-    const ferretgold_config config = FERRETGOLD_CONFIG;
+    ferretgold_config config = FERRETGOLD_CONFIG;
     const ferretgold_key key = {1, 1};
     ferretgold_cache *cache = NULL;
     ferretgold_client *opened = NULL;
     ferretgold_handle handle;
+    config.clients = 1;
     if (ferretgold_open(&config, &cache) != FERRETGOLD_OK ||
         ferretgold_client_open(cache, &opened) != FERRETGOLD_OK) {
         return 2;

@@ -17,9 +17,10 @@ static void *work(void *argument) {
 }
 
 int main(void) {
-    const ferretgold_config config = FERRETGOLD_CONFIG;
+    ferretgold_config config = FERRETGOLD_CONFIG;
     ferretgold_cache *cache = NULL;
     pthread_t other;
+    config.clients = 1;
     if (ferretgold_open(&config, &cache) != FERRETGOLD_OK ||
         ferretgold_client_open(cache, &client) != FERRETGOLD_OK ||
         pthread_create(&other, NULL, work, NULL) != 0) {
