@@ -47,7 +47,7 @@ lends() {
 
 # Makes the calls of ferretgold_object.h.
 objects() {
-    builds tests/c/{object,object_bytes,object_threads,heap}.c $out/libferretgold.a \
+    builds tests/c/{object,object_bytes,object_opening,object_threads,heap}.c $out/libferretgold.a \
         -Wl,--wrap=malloc,--wrap=realloc,--wrap=aligned_alloc,--wrap=free && runs 100000
 }
 

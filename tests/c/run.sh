@@ -52,7 +52,7 @@ hands() {
 
 # Makes the calls of ferretgold_object.h, so many by threads: objects OPERATIONS LIBRARY WORD..
 objects() {
-    builds_counting "$2" cc -std=c11 "${@:3}" tests/c/object{,_bytes,_threads}.c && "$folder/built" "$1"
+    builds_counting "$2" cc -std=c11 "${@:3}" tests/c/object{,_bytes,_opening,_threads}.c && "$folder/built" "$1"
 }
 
 # The same of its wrapper for C++: wraps OPERATIONS LIBRARY WORD..
