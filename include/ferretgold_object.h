@@ -71,7 +71,8 @@
  *
  * COSTS
  *   Calls allocate nothing, except opening, and an insertion of bytes their copy. A look-up and a
- *   release cost what the proved calls do, a load of the charge, and some 50 instructions each.
+ *   release cost what the proved calls do, which load the charge, too, and at most 50 instructions
+ *   each where the client is the thread's own and nothing waits to be given back.
  *   Bounds of atomic steps are those of the proved calls, times the tries of an insertion, with a
  *   release for each of at most 4 handles that other threads gave back.
  */
@@ -253,6 +254,10 @@ ferretgold_status ferretgold_object_insert(ferretgold_object_cache *cache,
 
 /*
  * The same, and gives a handle on it: PLACED or STANDALONE, as ferretgold_insert_pinned has it.
+ *
+ * `handle` may be null: then it is given back at once, as no use. So a new entry outlives one visit
+ * of the clock less than its priority says: at the lowest it goes at the first, unless a look-up
+ * finds it before. What would stand alone is DROPPED, as where no client is to be had.
  *
  * Refuses BAD_PRIORITY, NO_CHARGE, HANDLES_FULL, SPENT, GONE_FULL, TOO_HIGH, TOO_LARGE; and if
  * strict, after evictions that stay made, CAPACITY_FULL, OCCUPANCY_FULL. Where no client is to be

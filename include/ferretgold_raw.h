@@ -114,7 +114,7 @@ typedef struct ferretgold_object_value {
  * hold handles. */
 struct ferretgold_object_config; /* of ferretgold_object.h */
 
-/* What a walk holds at a slot: a handle on the entry there, and what its insertion gave. */
+/* What a look-up holds, or a walk at a slot: a handle on the entry, and what its insertion gave. */
 typedef struct ferretgold_held_object {
     ferretgold_handle handle;
     ferretgold_key key;
@@ -142,8 +142,8 @@ uint32_t ferretgold_raw_object_close(ferretgold_object cache, ferretgold_object 
 uint32_t ferretgold_raw_objects_next(ferretgold_object *left, ferretgold_key *key,
                                      ferretgold_object_value *object);
 uint32_t ferretgold_raw_objects_end(ferretgold_object left, ferretgold_object *kept);
-uint32_t ferretgold_raw_object_lookup(ferretgold_object *client, const ferretgold_key *key,
-                                      ferretgold_handle *handle, ferretgold_object_value *object);
+/* Looks for the key in `held`, which gets the rest. */
+uint32_t ferretgold_raw_object_hold(ferretgold_object *client, ferretgold_held_object *held);
 /* Holds the entry of a slot of a shard as a look-up of its key does, and returns MISS where none is
  * visible there, or there is no such slot. Where it finds a hidden one that nobody holds, it tries to
  * free it. */

@@ -100,8 +100,14 @@ class deleter_kinds {
         if (it == nullptr) {
             return NOTHING;
         }
-        const std::size_t place = place_of(it);
-        return place < MOST && table_[place].load() == it ? kind_at(place) : added(it);
+        std::size_t place = first_of(it);
+        if (table_[place].load(std::memory_order_acquire) != it) {
+            place = place_of(it);
+            if (place == MOST || table_[place].load(std::memory_order_acquire) != it) {
+                return added(it);
+            }
+        }
+        return kind_at(place);
     }
 
     // The deleter of a kind, or null.
@@ -117,12 +123,16 @@ class deleter_kinds {
         return static_cast<std::uint16_t>(FIRST + place);
     }
 
-    // Where a deleter is, or could be; MOST if it is nowhere, and all places are taken.
-    std::size_t place_of(deleter it) const noexcept {
+    // Where a deleter is looked for first.
+    static std::size_t first_of(deleter it) noexcept {
         const auto address = static_cast<std::uint64_t>(reinterpret_cast<std::uintptr_t>(it));
-        const std::uint64_t first = address * UINT64_C(0x9e3779b97f4a7c15) >> 52;
+        return static_cast<std::size_t>(address * UINT64_C(0x9e3779b97f4a7c15) >> 52);
+    }
+
+    // Where it is, or could be; MOST if it is nowhere, and all places are taken.
+    std::size_t place_of(deleter it) const noexcept {
         for (std::size_t n = 0; n < MOST; n++) {
-            const std::size_t place = (first + n) % MOST;
+            const std::size_t place = (first_of(it) + n) % MOST;
             const deleter there = table_[place].load(std::memory_order_acquire);
             if (there == it || there == nullptr) {
                 return place;
@@ -263,10 +273,10 @@ class rocksdb_cache final : public rocksdb::Cache {
         if (kind == deleter_kinds::UNKNOWN) {
             return rocksdb::Status::NotSupported("a cache knows 4,096 deleters");
         }
-        const object it{key_of(key), value, kind,
-                        static_cast<std::uint32_t>(std::max<std::size_t>(charge, 1))};
-        return handle != nullptr ? inserted_with(it, priority, handle)
-                                 : inserted_without(it, priority);
+        const ferretgold_key at = key_of(key);
+        const object it{value, kind, static_cast<std::uint32_t>(std::max<std::size_t>(charge, 1))};
+        return handle != nullptr ? inserted_with(at, it, priority, handle)
+                                 : inserted_without(at, it, priority);
     }
 
     Handle *Lookup(const rocksdb::Slice &key, rocksdb::Statistics * = nullptr) override {
@@ -390,7 +400,6 @@ class rocksdb_cache final : public rocksdb::Cache {
 
   private:
     struct object {
-        ferretgold_key key;
         void *value;
         std::uint16_t kind;
         std::uint32_t charge;
@@ -448,18 +457,18 @@ class rocksdb_cache final : public rocksdb::Cache {
 
     // ---- Insertions ----
 
-    // Where the handle is given back as no use, a new entry begins one below its priority's rank.
-    ferretgold_status pinned(const object &it, Priority priority, ferretgold_inserted &inserted,
-                             const ferretgold_object_handle *&handle) noexcept {
-        return ferretgold_object_insert_pinned(
-            cache_, &it.key, it.value, it.kind, it.charge,
-            priority == Priority::HIGH ? FERRETGOLD_LOW : FERRETGOLD_BOTTOM, &inserted, &handle);
+    // Where the handle is given back as no use, a new entry begins one below this rank.
+    static ferretgold_priority rank_of(Priority priority) noexcept {
+        return priority == Priority::HIGH ? FERRETGOLD_LOW : FERRETGOLD_BOTTOM;
     }
 
-    rocksdb::Status inserted_with(const object &it, Priority priority, Handle **handle) {
+    rocksdb::Status inserted_with(const ferretgold_key &key, const object &it, Priority priority,
+                                  Handle **handle) {
         ferretgold_inserted inserted = FERRETGOLD_PLACED;
         const ferretgold_object_handle *held = nullptr;
-        if (pinned(it, priority, inserted, held) != FERRETGOLD_OK) {
+        if (ferretgold_object_insert_pinned(cache_, &key, it.value, it.kind, it.charge,
+                                            rank_of(priority), &inserted, &held)
+            != FERRETGOLD_OK) {
             return rocksdb::Status::MemoryLimit("the cache is full, or all its handles are out");
         }
         *handle = handle_of(held, INSERTION);
@@ -467,14 +476,14 @@ class rocksdb_cache final : public rocksdb::Cache {
                                              : rocksdb::Status::OkOverwritten();
     }
 
-    // Also what is refused is the cache's, which deletes it.
-    rocksdb::Status inserted_without(const object &it, Priority priority) {
-        ferretgold_inserted inserted = FERRETGOLD_PLACED;
-        const ferretgold_object_handle *held = nullptr;
-        if (pinned(it, priority, inserted, held) == FERRETGOLD_OK) {
-            give_back(held);
-        } else {
-            deleted(this, &it.key, it.value, it.kind);
+    // Also what finds no place, or is refused, is the cache's, which deletes it.
+    rocksdb::Status inserted_without(const ferretgold_key &key, const object &it,
+                                     Priority priority) {
+        ferretgold_inserted inserted = FERRETGOLD_DROPPED;
+        (void)ferretgold_object_insert_pinned(cache_, &key, it.value, it.kind, it.charge,
+                                              rank_of(priority), &inserted, nullptr);
+        if (inserted != FERRETGOLD_PLACED) {
+            deleted(this, &key, it.value, it.kind);
         }
         return rocksdb::Status::OK();
     }

@@ -12,29 +12,14 @@ enum {
     ADDRESS_BITS = 48
 };
 
-/* ---- What the checking library knows of objects ---------------------------------------------- */
-
-#ifndef FERRETGOLD_CHECK
-#define owned_begins(owned, object, kind, call) ((void)0)
-#define owned_ends(owned, object, kind) ((void)0)
-#endif
-
 /* ---- Deleters -------------------------------------------------------------------------------- */
 
-void delete_object(ferretgold_object_cache *cache, const ferretgold_key *key,
-                   const ferretgold_object_value *value) {
-    void *object = (void *)(uintptr_t)value->address;
-    owned_ends(cache->owned, object, value->kind);
-    cache->deleter(cache->context, key, object, value->kind);
-}
-
 /* Runs the deleter of one object of no client. Whether there was one. */
-static bool has_deleted_alone(ferretgold_object_cache *cache) {
-    object_cell *cell = cell_of(cache);
-    if (cell == NULL || cell->alone == NULL) {
+SLOWLY static bool has_deleted_alone(ferretgold_object_cache *cache, object_cell *cell) {
+    record *it = cell->alone;
+    if (it == NULL) {
         return false;
     }
-    record *it = cell->alone;
     const ferretgold_object_handle was = it->shows;
     const ferretgold_object_value value = {(uintptr_t)was.object, was.kind};
     cell->alone = (record *)(uintptr_t)it->handle.serial;
@@ -43,32 +28,39 @@ static bool has_deleted_alone(ferretgold_object_cache *cache) {
     return true;
 }
 
-void run_deleters(object_client *client) {
-    ferretgold_key key = {0, 0};
-    ferretgold_object_value value = {0, 0};
+/* Runs the deleters of all that is on the list of a call's client, or is of none: what their calls
+ * put there, too. */
+QUICKLY void delete_all(object_cell *it) {
+    object_client *client = it->in_use;
+    ferretgold_key key;
+    ferretgold_object_value value;
     do {
         while (ferretgold_raw_object_take_gone(&client->session, &key, &value) == FERRETGOLD_OK) {
             delete_object(client->cache, &key, &value);
         }
-    } while (has_deleted_alone(client->cache));
+    } while (RARELY(it->alone != NULL) && has_deleted_alone(client->cache, it));
     client->untaken = false;
 }
 
+static void run_deleters(object_cell *it) {
+    delete_all(it);
+}
+
 /* As few as each list has places for, so that each may free its entry. */
-static bool some_given_back(object_client *client) {
-    const bool more = records_given_back(client, SOME);
-    if (client->untaken) {
-        run_deleters(client);
+static bool some_given_back(object_cell *it) {
+    const bool more = records_given_back(it->in_use, SOME);
+    if (it->in_use->untaken) {
+        run_deleters(it);
     }
     return more;
 }
 
-void give_back_some(object_client *client) {
-    (void)some_given_back(client);
+static void give_back_some(object_cell *it) {
+    (void)some_given_back(it);
 }
 
-void give_back_all(object_client *client) {
-    while (some_given_back(client)) {
+void give_back_all(object_cell *it) {
+    while (some_given_back(it)) {
     }
 }
 
@@ -83,22 +75,44 @@ SLOWLY static object_cell *entered_again(object_cell *it) {
     return it;
 }
 
-/* Begins a call that needs a client: the thread's cell of the cache; null if no client is to be
- * had. The first call of a thread gives a few handles back that other threads left; its deleters'
- * calls go through the same client. */
-static inline object_cell *enter(ferretgold_object_cache *cache) {
+/* A thread is in a call of this client: the first one, whose deleters' calls go through it, too. */
+static inline void begin(object_cell *it, object_client *client) {
+    it->in_use = client;
+    it->depth = 1;
+    it->ready = 0;
+}
+
+/* Begins a call where more is to be done than that: it gives a few handles back that other threads
+ * left, or all of another thread's client. */
+SLOWLY static object_cell *enter_slowly(ferretgold_object_cache *cache) {
     object_cell *it = cell_of(cache);
-    if (RARELY(it == NULL || it->depth > 0)) {
+    if (it == NULL || it->depth > 0) {
         return entered_again(it);
     }
-    if (RARELY(it->client == NULL || !own_entered(it)) && !client_found(cache, it)) {
+    if ((it->client == NULL || !own_entered(it)) && !client_found(cache, it)) {
         return NULL;
     }
-    it->depth = 1;
-    it->ready = NULL;
-    if (RARELY(has_returned(it->in_use))) {
-        (it->in_use == it->client ? give_back_some : give_back_all)(it->in_use);
+    begin(it, it->in_use);
+    if (has_returned(it->in_use)) {
+        (it->in_use == it->client ? give_back_some : give_back_all)(it);
     }
+    return it;
+}
+
+/* Whether a thread's ready client has begun a call: not where something else is to be done first. */
+static inline bool entered_plainly(object_client *client, const object_cell *it) {
+    return atomic_load_explicit(&client->queue, memory_order_relaxed) == NULL
+           && client_entered(client, it);
+}
+
+/* Begins a call that needs a client: the thread's cell of the cache; null if none is to be had. */
+QUICKLY object_cell *enter(ferretgold_object_cache *cache) {
+    object_cell *it = cell_at_home(cache);
+    object_client *client = it->client;
+    if (RARELY(it->ready != cache->life) || RARELY(!entered_plainly(client, it))) {
+        return enter_slowly(cache);
+    }
+    begin(it, client);
     return it;
 }
 
@@ -111,26 +125,24 @@ static object_cell *enter_own(object_client *client) {
     if (it->client != client || !own_entered(it)) {
         return NULL;
     }
-    it->depth = 1;
-    it->ready = NULL;
+    begin(it, client);
     if (has_returned(client)) {
-        give_back_some(client);
+        give_back_some(it);
     }
     return it;
 }
 
-/* Begins a call on the thread's own client that runs no deleter, where nothing else is to be done:
- * null in all other cases. */
-static inline object_client *enter_plainly(const ferretgold_object_cache *cache) {
-    const object_cell *it = cell_at_home(cache);
-    object_client *client = it->ready;
-    if (RARELY(it->life != cache->life || client == NULL)) {
-        return NULL;
+/* Ends the first call of a thread. */
+static inline void end(object_cell *it) {
+    object_client *client = it->client;
+    it->depth = 0;
+    if (RARELY(it->in_use != client)) {
+        client_unclaimed(it->in_use);
+        it->ready = client != NULL && !has_backlog(client) ? it->life : 0;
+        return;
     }
-    if (RARELY(atomic_load_explicit(&client->queue, memory_order_relaxed) != NULL)) {
-        return NULL;
-    }
-    return RARELY(!client_entered(client)) ? NULL : client;
+    client_left(client);
+    it->ready = has_backlog(client) ? 0 : it->life;
 }
 
 /* Ends a call: the first of a thread runs the deleters of what was freed. */
@@ -139,16 +151,10 @@ static inline ferretgold_status leave(object_cell *it, uint32_t status) {
         it->depth -= 1;
         return (ferretgold_status)status;
     }
-    if (RARELY(it->in_use->untaken)) {
-        run_deleters(it->in_use);
+    if (it->in_use->untaken) {
+        run_deleters(it);
     }
-    it->depth = 0;
-    if (it->in_use == it->client) {
-        client_left(it->client);
-    } else {
-        client_unclaimed(it->in_use);
-    }
-    it->ready = it->client != NULL && !has_backlog(it->client) ? it->client : NULL;
+    end(it);
     return (ferretgold_status)status;
 }
 
@@ -160,10 +166,10 @@ SLOWLY static bool may_retry(object_cell *it, uint32_t status, uint32_t *changes
         return false;
     }
     if (client->untaken) {
-        run_deleters(client);
+        run_deleters(it);
     }
     if (status == FERRETGOLD_HANDLES_FULL && has_returned(client)) {
-        give_back_all(client);
+        give_back_all(it);
         return true;
     }
     *changes += 1;
@@ -178,10 +184,8 @@ static void relieve(object_cell *it, object_client *client) {
     if (client == it->client ? !own_entered(it) : !client_claimed(client)) {
         return;
     }
-    it->in_use = client;
-    it->depth = 1;
-    it->ready = NULL;
-    give_back_all(client);
+    begin(it, client);
+    give_back_all(it);
     (void)leave(it, FERRETGOLD_OK);
 }
 
@@ -208,32 +212,35 @@ static inline const ferretgold_object_handle *shown(record *it, uint64_t serial,
     return &it->shows;
 }
 
-/* Looks a key up by one client. */
-static inline uint32_t looked_up(object_client *client, const ferretgold_key *key,
+/* The same of what a client holds now. */
+static inline const ferretgold_object_handle *shown_by(object_client *client,
+                                                       const ferretgold_held_object *held) {
+    return shown(&client->records[held->handle.index], held->handle.serial, &held->key,
+                 &held->object, held->charge);
+}
+
+/* Looks up the key in `held` by one client. */
+static inline uint32_t looked_up(object_client *client, ferretgold_held_object *held,
                                  const ferretgold_object_handle **handle) {
-    ferretgold_handle found;
-    ferretgold_object_value value;
-    uint64_t charge;
-    const uint32_t status = ferretgold_raw_object_lookup(&client->session, key, &found, &value);
-    if (status != FERRETGOLD_OK) {
-        return status;
+    const uint32_t status = ferretgold_raw_object_hold(&client->session, held);
+    if (status == FERRETGOLD_OK) {
+        *handle = shown_by(client, held);
     }
-    (void)ferretgold_raw_object_charge(&client->session, &found, &charge);
-    *handle = shown(&client->records[found.index], found.serial, key, &value, charge);
-    return FERRETGOLD_OK;
+    return status;
 }
 
 /* The same where more is to be done than that. */
 SLOWLY static ferretgold_status looked_up_slowly(ferretgold_object_cache *cache,
-                                                 const ferretgold_key *key,
+                                                 ferretgold_key key,
                                                  const ferretgold_object_handle **handle) {
+    ferretgold_held_object held = {.key = key};
     object_cell *it = enter(cache);
     if (it == NULL) {
         return FERRETGOLD_MISS;
     }
-    uint32_t status = looked_up(it->in_use, key, handle);
+    uint32_t status = looked_up(it->in_use, &held, handle);
     for (uint32_t changes = 0; status > FERRETGOLD_MISS && may_retry(it, status, &changes);) {
-        status = looked_up(it->in_use, key, handle);
+        status = looked_up(it->in_use, &held, handle);
     }
     return leave(it, status);
 }
@@ -241,16 +248,22 @@ SLOWLY static ferretgold_status looked_up_slowly(ferretgold_object_cache *cache,
 ferretgold_status ferretgold_object_lookup(ferretgold_object_cache *cache,
                                            const ferretgold_key *key,
                                            const ferretgold_object_handle **handle) {
-    if (RARELY(cache == NULL) || RARELY(key == NULL) || RARELY(handle == NULL)) {
+    if (RARELY(cache == NULL) || RARELY(key == NULL)) {
         return FERRETGOLD_NULL;
     }
-    object_client *client = enter_plainly(cache);
-    if (RARELY(client == NULL)) {
-        return looked_up_slowly(cache, key, handle);
+    ferretgold_held_object held;
+    held.key = *key;
+    if (RARELY(handle == NULL)) {
+        return FERRETGOLD_NULL;
     }
-    const uint32_t status = looked_up(client, key, handle);
+    const object_cell *cell = cell_at_home(cache);
+    object_client *client = cell->client;
+    if (RARELY(cell->ready != cache->life) || RARELY(!entered_plainly(client, cell))) {
+        return looked_up_slowly(cache, held.key, handle);
+    }
+    const uint32_t status = looked_up(client, &held, handle);
     client_left(client);
-    return RARELY(status > FERRETGOLD_MISS) ? looked_up_slowly(client->cache, key, handle)
+    return RARELY(status > FERRETGOLD_MISS) ? looked_up_slowly(client->cache, held.key, handle)
                                             : (ferretgold_status)status;
 }
 
@@ -274,8 +287,7 @@ ferretgold_status ferretgold_object_pin_at(ferretgold_object_cache *cache, uint3
         status = ferretgold_raw_object_pin_at(&it->in_use->session, shard, slot, &held);
     } while (status > FERRETGOLD_MISS && may_retry(it, status, &changes));
     if (status == FERRETGOLD_OK) {
-        *handle = shown(&it->in_use->records[held.handle.index], held.handle.serial, &held.key,
-                        &held.object, held.charge);
+        *handle = shown_by(it->in_use, &held);
     }
     return leave(it, status);
 }
@@ -283,6 +295,11 @@ ferretgold_status ferretgold_object_pin_at(ferretgold_object_cache *cache, uint3
 /* The record that a handle points to. */
 static record *record_of(const ferretgold_object_handle *handle) {
     return (record *)(uintptr_t)handle;
+}
+
+/* Whether a record is one of a client's. */
+static inline bool is_of(const object_client *client, const record *it) {
+    return (uintptr_t)it - (uintptr_t)client->records < client->size;
 }
 
 ferretgold_status ferretgold_object_ref(ferretgold_object_cache *cache,
@@ -328,10 +345,10 @@ static ferretgold_status ended_alone(ferretgold_object_cache *cache, record *it)
         return FERRETGOLD_OK;
     }
     cell->in_use = NULL;
-    cell->ready = NULL;
+    cell->ready = 0;
     cell->depth = 1;
     leave_alone(cell, it);
-    while (has_deleted_alone(cache)) {
+    while (has_deleted_alone(cache, cell)) {
     }
     cell->depth = 0;
     return FERRETGOLD_OK;
@@ -339,8 +356,8 @@ static ferretgold_status ended_alone(ferretgold_object_cache *cache, record *it)
 
 /* Gives a handle back by its client, whose call this is, or leaves it to that, and gives back what
  * waits there if that is much. */
-SLOWLY static ferretgold_status given_back(ferretgold_object_cache *cache, record *it,
-                                           bool useful, bool erase_if_last, bool *freed) {
+static ferretgold_status given_back(ferretgold_object_cache *cache, record *it, bool useful,
+                                    bool erase_if_last, bool *freed) {
     if (it->handle.client == NOWHERE) {
         *freed = true;
         return ended_alone(cache, it);
@@ -362,46 +379,43 @@ SLOWLY static ferretgold_status given_back(ferretgold_object_cache *cache, recor
 /* The deleters of what a client freed that had nothing else to do. */
 SLOWLY static ferretgold_status left_with_deleters(object_client *client, uint32_t status) {
     object_cell *it = cell_of(client->cache);
-    it->in_use = client;
-    it->depth = 1;
-    it->ready = NULL;
+    begin(it, client);
     client->untaken = true;
     return leave(it, status);
 }
 
-/* Ends a reference. Whether it was the last one. */
-static inline bool is_last(record *it, unsigned seen) {
-    if (RARELY(seen > 1) && atomic_fetch_sub(&it->references, 1) > 1) {
-        return false;
+/* Ends a reference of a handle, also where there are more of them, or the client is another. */
+SLOWLY static ferretgold_status released_slowly(ferretgold_object_cache *cache, record *it,
+                                                bool useful, bool erase_if_last, bool *freed) {
+    const unsigned seen = atomic_load_explicit(&it->references, memory_order_acquire);
+    if (it->handle.cache != cache->number || seen == 0) {
+        return FERRETGOLD_NO_HANDLE;
+    }
+    *freed = false;
+    if (seen > 1 && atomic_fetch_sub(&it->references, 1) > 1) {
+        return FERRETGOLD_OK;
     }
     atomic_store_explicit(&it->references, 0, memory_order_relaxed);
-    return true;
+    return given_back(cache, it, useful, erase_if_last, freed);
 }
 
 ferretgold_status ferretgold_object_release(ferretgold_object_cache *cache,
                                             const ferretgold_object_handle *handle, bool useful,
                                             bool erase_if_last, bool *freed) {
     bool ignored;
-    if (cache == NULL || handle == NULL) {
+    if (RARELY(cache == NULL) || RARELY(handle == NULL)) {
         return FERRETGOLD_NULL;
     }
     record *it = record_of(handle);
-    const unsigned seen = atomic_load_explicit(&it->references, memory_order_acquire);
-    if (it->handle.cache != cache->number || seen == 0) {
-        return FERRETGOLD_NO_HANDLE;
-    }
+    const object_cell *cell = cell_at_home(cache);
+    object_client *client = cell->client;
     freed = freed != NULL ? freed : &ignored;
-    *freed = false;
-    if (RARELY(!is_last(it, seen))) {
-        return FERRETGOLD_OK;
+    if (RARELY(atomic_load_explicit(&it->references, memory_order_acquire) != 1)
+        || RARELY(cell->ready != cache->life) || RARELY(!is_of(client, it))
+        || RARELY(!entered_plainly(client, cell))) {
+        return released_slowly(cache, it, useful, erase_if_last, freed);
     }
-    object_client *client = enter_plainly(cache);
-    if (RARELY(client == NULL || client->number != it->handle.client)) {
-        if (client != NULL) {
-            client_left(client);
-        }
-        return given_back(cache, it, useful, erase_if_last, freed);
-    }
+    atomic_store_explicit(&it->references, 0, memory_order_relaxed);
     const uint32_t status = ferretgold_raw_object_release(&client->session, &it->handle, useful,
                                                           erase_if_last, freed);
     if (RARELY(*freed)) {
@@ -413,60 +427,98 @@ ferretgold_status ferretgold_object_release(ferretgold_object_cache *cache,
 
 /* ---- Inserting ------------------------------------------------------------------------------- */
 
+/* Without a handle; with one that is given back at once, as no use; and with a handle. */
+typedef enum way { PLAIN, COLD, PINNED } way;
+
 /* An object that is to be inserted. */
 typedef struct insertion {
     const ferretgold_key *key;
     ferretgold_object_value value;
     uint32_t charge;
     uint32_t priority;
-    bool pinned;
     uint32_t placing;
-    ferretgold_handle handle;
-    record *spare; /* in place of a handle's */
+    bool list_full;
+    ferretgold_handle handle; /* but of a plain one */
+    record *spare;            /* in place of a handle's */
 } insertion;
 
+/* What is asked for: the rest comes of it. */
+static inline void ask(insertion *it, const ferretgold_key *key, void *object, uint16_t kind,
+                       uint32_t charge, ferretgold_priority priority) {
+    it->key = key;
+    it->value = (ferretgold_object_value){(uintptr_t)object, kind};
+    it->charge = charge;
+    it->priority = (uint32_t)priority;
+    it->spare = NULL;
+}
+
 /* One try, by one client. */
-static uint32_t insert_once(object_client *client, insertion *it, bool *list_full) {
+static inline uint32_t insert_once(object_client *client, insertion *it, way way) {
     client->untaken = true;
-    *list_full = false;
-    return it->pinned ? ferretgold_raw_object_insert_pinned(&client->session, it->key, &it->value,
-                                                            it->charge, it->priority, &it->placing,
-                                                            list_full, &it->handle)
-                      : ferretgold_raw_object_insert(&client->session, it->key, &it->value,
-                                                     it->charge, it->priority, &it->placing,
-                                                     list_full);
+    it->list_full = false;
+    if (way == PLAIN) {
+        return ferretgold_raw_object_insert(&client->session, it->key, &it->value, it->charge,
+                                            it->priority, &it->placing, &it->list_full);
+    }
+    return ferretgold_raw_object_insert_pinned(&client->session, it->key, &it->value, it->charge,
+                                               it->priority, &it->placing, &it->list_full,
+                                               &it->handle);
+}
+
+/* Gives the handle of an insertion back as no use. */
+static inline void unpin(object_client *client, const insertion *it) {
+    bool freed = false;
+    (void)ferretgold_raw_object_release(&client->session, &it->handle, false, false, &freed);
 }
 
 /* Takes back an object that stands alone: it is the newest on the list then, and the caller's. */
 static void take_back(object_client *client, const insertion *it) {
-    bool freed = false;
     ferretgold_key key;
     ferretgold_object_value value;
-    (void)ferretgold_raw_object_release(&client->session, &it->handle, false, false, &freed);
+    unpin(client, it);
     (void)ferretgold_raw_object_take_gone(&client->session, &key, &value);
 }
 
-/* Where the list was full, the first call of a thread empties it and tries again. */
-static uint32_t insert_tries(object_cell *cell, insertion *it) {
+/* Tries again where that helps: where the list was full the first call of a thread empties it, and
+ * where the client was full, or spent, there may be another. */
+SLOWLY static uint32_t insert_again(object_cell *cell, insertion *it, way way, uint32_t status) {
     uint32_t tries = 0, changes = 0;
     for (;;) {
-        bool list_full = false;
-        const uint32_t status = insert_once(cell->in_use, it, &list_full);
-        list_full |= status == FERRETGOLD_GONE_FULL;
+        const bool list_full = it->list_full || status == FERRETGOLD_GONE_FULL;
         if (list_full && cell->depth == 1 && ++tries < INSERTIONS) {
-            if (status == FERRETGOLD_OK && it->pinned) {
+            if (status == FERRETGOLD_OK && way != PLAIN) {
                 take_back(cell->in_use, it);
             }
-            run_deleters(cell->in_use);
+            run_deleters(cell);
         } else if (status == FERRETGOLD_OK || !may_retry(cell, status, &changes)) {
             return status;
         }
+        status = insert_once(cell->in_use, it, way);
     }
+}
+
+/* Inserts by the client of a call. Where a handle is given back at once, what stands alone is the
+ * caller's again. */
+static inline uint32_t insert_by(object_cell *cell, insertion *it, way way) {
+    uint32_t status = insert_once(cell->in_use, it, way);
+    if (RARELY(status != FERRETGOLD_OK) || RARELY(it->list_full)) {
+        status = insert_again(cell, it, way, status);
+    }
+    if (way != COLD || RARELY(status != FERRETGOLD_OK)) {
+        return status;
+    }
+    if (RARELY(it->placing == FERRETGOLD_STANDALONE)) {
+        take_back(cell->in_use, it);
+        it->placing = FERRETGOLD_DROPPED;
+    } else {
+        unpin(cell->in_use, it);
+    }
+    return status;
 }
 
 /* What an insertion comes to for which no client is to be had: with a handle its object stands
  * alone, if there is a record for it. */
-static uint32_t insert_nowhere(ferretgold_object_cache *cache, insertion *it) {
+SLOWLY static uint32_t insert_nowhere(ferretgold_object_cache *cache, insertion *it, way way) {
     if (it->priority >= PRIORITIES) {
         return FERRETGOLD_BAD_PRIORITY;
     }
@@ -476,32 +528,44 @@ static uint32_t insert_nowhere(ferretgold_object_cache *cache, insertion *it) {
     if (it->value.address >> ADDRESS_BITS != 0) {
         return FERRETGOLD_TOO_HIGH;
     }
-    it->placing = it->pinned ? FERRETGOLD_STANDALONE : FERRETGOLD_DROPPED;
-    it->spare = it->pinned ? spare_taken(cache) : NULL;
-    return it->pinned && it->spare == NULL ? FERRETGOLD_NO_CLIENT : FERRETGOLD_OK;
+    it->placing = way == PINNED ? FERRETGOLD_STANDALONE : FERRETGOLD_DROPPED;
+    it->spare = way == PINNED ? spare_taken(cache) : NULL;
+    return way == PINNED && it->spare == NULL ? FERRETGOLD_NO_CLIENT : FERRETGOLD_OK;
 }
 
-static ferretgold_status insert(ferretgold_object_cache *cache, insertion *it,
-                                ferretgold_inserted *inserted,
-                                const ferretgold_object_handle **handle, const char *call) {
+/* The handle of an insertion. */
+static inline const ferretgold_object_handle *shown_of(object_cell *cell, const insertion *it) {
+    record *its = it->spare != NULL ? it->spare : &cell->in_use->records[it->handle.index];
+    return shown(its, it->handle.serial, it->key, &it->value, it->charge);
+}
+
+QUICKLY ferretgold_status insert(ferretgold_object_cache *cache, insertion *it, way way,
+                                       ferretgold_inserted *inserted,
+                                       const ferretgold_object_handle **handle, const char *call) {
     const void *object = (const void *)(uintptr_t)it->value.address;
     (void)call, (void)object;
     object_cell *cell = enter(cache);
     owned_begins(cache->owned, object, it->value.kind, call);
-    const uint32_t status = cell != NULL ? insert_tries(cell, it) : insert_nowhere(cache, it);
-    if (status != FERRETGOLD_OK || it->placing == FERRETGOLD_DROPPED) {
+    const uint32_t status = RARELY(cell == NULL) ? insert_nowhere(cache, it, way)
+                                                 : insert_by(cell, it, way);
+    if (RARELY(status != FERRETGOLD_OK) || RARELY(it->placing == FERRETGOLD_DROPPED)) {
         owned_ends(cache->owned, object, it->value.kind);
     }
-    if (status == FERRETGOLD_OK) {
-        if (inserted != NULL) {
-            *inserted = (ferretgold_inserted)it->placing;
-        }
-        if (it->pinned) {
-            record *its = it->spare != NULL ? it->spare : &cell->in_use->records[it->handle.index];
-            *handle = shown(its, it->handle.serial, it->key, &it->value, it->charge);
-        }
+    if (RARELY(status != FERRETGOLD_OK)) {
+        return cell != NULL ? leave(cell, status) : (ferretgold_status)status;
     }
-    return cell != NULL ? leave(cell, status) : (ferretgold_status)status;
+    if (inserted != NULL) {
+        *inserted = (ferretgold_inserted)it->placing;
+    }
+    if (way == PINNED) {
+        *handle = shown_of(cell, it);
+    }
+    if (RARELY(cell == NULL) || RARELY(cell->depth > 1)) {
+        return cell != NULL ? leave(cell, FERRETGOLD_OK) : FERRETGOLD_OK;
+    }
+    delete_all(cell);
+    end(cell);
+    return FERRETGOLD_OK;
 }
 
 ferretgold_status ferretgold_object_insert(ferretgold_object_cache *cache,
@@ -511,9 +575,9 @@ ferretgold_status ferretgold_object_insert(ferretgold_object_cache *cache,
     if (cache == NULL || key == NULL) {
         return FERRETGOLD_NULL;
     }
-    insertion it = {key, {(uintptr_t)object, kind}, charge, (uint32_t)priority, false, 0,
-                    {0, 0, 0, 0}, NULL};
-    return insert(cache, &it, inserted, NULL, __func__);
+    insertion it;
+    ask(&it, key, object, kind, charge, priority);
+    return insert(cache, &it, PLAIN, inserted, NULL, __func__);
 }
 
 ferretgold_status ferretgold_object_insert_pinned(ferretgold_object_cache *cache,
@@ -522,12 +586,15 @@ ferretgold_status ferretgold_object_insert_pinned(ferretgold_object_cache *cache
                                                   ferretgold_priority priority,
                                                   ferretgold_inserted *inserted,
                                                   const ferretgold_object_handle **handle) {
-    if (cache == NULL || key == NULL || handle == NULL) {
+    if (cache == NULL || key == NULL) {
         return FERRETGOLD_NULL;
     }
-    insertion it = {key, {(uintptr_t)object, kind}, charge, (uint32_t)priority, true, 0,
-                    {0, 0, 0, 0}, NULL};
-    return insert(cache, &it, inserted, handle, __func__);
+    insertion it;
+    ask(&it, key, object, kind, charge, priority);
+    if (handle == NULL) {
+        return insert(cache, &it, COLD, inserted, NULL, __func__);
+    }
+    return insert(cache, &it, PINNED, inserted, handle, __func__);
 }
 
 ferretgold_status ferretgold_object_erase(ferretgold_object_cache *cache,

@@ -9,9 +9,10 @@
 
 #include <stdatomic.h>
 
-/* Conditions and functions off the usual way. */
+/* Conditions and functions off the usual way, and functions on it. */
 #define RARELY(what) __builtin_expect(!!(what), 0)
 #define SLOWLY __attribute__((noinline, cold))
+#define QUICKLY __attribute__((always_inline)) static inline
 
 /* What a handle points to: one cache line of its client, in the place of the proved handle's index.
  * It is filled while the client has it, and then read by any thread, until the proved handle is
@@ -37,6 +38,7 @@ typedef struct object_client {
     _Alignas(LINE) ferretgold_object session; /* the proved library's */
     ferretgold_object_cache *cache;
     record *records;                /* one for each handle */
+    size_t size;                    /* of these, in bytes */
     _Atomic(record *) backlog;      /* taken off the queue, and not given back yet */
     atomic_uint claim;              /* the thread that names it, and whether somebody claims it */
     atomic_bool inside;             /* its thread is in a call: written by that thread */
@@ -52,9 +54,9 @@ enum { NOBODY = 0, CLAIMED = 1 };
 
 struct ferretgold_object_cache {
     _Alignas(LINE) uint64_t life; /* a number that no other cache of the process has */
-    uint32_t home;                /* where among a thread's cells it is looked for, in bytes */
-    uint32_t number;              /* the proved cache's, which its handles have */
+    ptrdiff_t home;               /* of the cell where a thread looks for it, from its pointer */
     object_client *client;
+    uint32_t number; /* the proved cache's, which its handles have */
     ferretgold_deleter deleter;
     void *context;
     ferretgold_object_config config;
@@ -68,10 +70,11 @@ struct ferretgold_object_cache {
 /* What a thread knows of a cache. */
 typedef struct object_cell {
     uint64_t life;         /* of the cache; 0 if this cell is free */
+    uint64_t ready;        /* the same between calls, if its client has no backlog; else 0 */
     object_client *client; /* that the thread names; null if it names none */
-    object_client *ready;  /* the same between calls, if it has no backlog; else null */
     object_client *in_use; /* by its call; null if that has none */
     record *alone;         /* objects of no client that are to be deleted */
+    uint32_t token;        /* by which the thread names the client */
     uint32_t depth;        /* how many calls it is in: more than one from a deleter */
 } object_cell;
 
@@ -118,16 +121,8 @@ void spare_given_back(ferretgold_object_cache *cache, record *it);
 
 /* ---- object.c -------------------------------------------------------------------------------- */
 
-/* Runs the deleter of an object that was freed. */
-void delete_object(ferretgold_object_cache *cache, const ferretgold_key *key,
-                   const ferretgold_object_value *value);
-
-/* Runs the deleter of all that is on a client's list: what its calls put there meanwhile, too. */
-void run_deleters(object_client *client);
-
-/* Gives back a few of the handles that other threads gave back, or all, and runs deleters. */
-void give_back_some(object_client *client);
-void give_back_all(object_client *client);
+/* Gives back all handles that other threads gave back to the client of a call, and runs deleters. */
+void give_back_all(object_cell *it);
 
 /* ---- object_owned.c, of the checking library ------------------------------------------------- */
 
@@ -141,7 +136,18 @@ void owned_ends(struct owned *it, const void *object, uint16_t kind);
 void owned_freed(struct owned *it);
 /* A client is used: the program ends if it is already. */
 void owned_use(atomic_bool *used, uint32_t number);
+#else
+#define owned_begins(owned, object, kind, call) ((void)0)
+#define owned_ends(owned, object, kind) ((void)0)
 #endif
+
+/* Runs the deleter of an object that was freed. */
+static inline void delete_object(ferretgold_object_cache *cache, const ferretgold_key *key,
+                                 const ferretgold_object_value *value) {
+    void *object = (void *)(uintptr_t)value->address;
+    owned_ends(cache->owned, object, value->kind);
+    cache->deleter(cache->context, key, object, value->kind);
+}
 
 /* ---- What the checking library looks at in clients ------------------------------------------- */
 
@@ -174,10 +180,10 @@ static inline bool has_returned(object_client *client) {
 
 /* A thread begins to use the client that it names, unless that is claimed. Who claims it makes all
  * threads pass a barrier before it looks at `inside`: so a plain store and a load do here. */
-static inline bool client_entered(object_client *client) {
+static inline bool client_entered(object_client *client, const object_cell *it) {
     atomic_store_explicit(&client->inside, true, memory_order_relaxed);
     atomic_signal_fence(memory_order_seq_cst);
-    if (RARELY(atomic_load_explicit(&client->claim, memory_order_acquire) != object_self.token)) {
+    if (RARELY(atomic_load_explicit(&client->claim, memory_order_acquire) != it->token)) {
         atomic_store_explicit(&client->inside, false, memory_order_release);
         return false;
     }
@@ -193,11 +199,11 @@ static inline void client_left(object_client *client) {
 /* The same for a call that may run deleters, or change its client. */
 static inline bool own_entered(object_cell *it) {
     it->in_use = it->client;
-    return client_entered(it->client);
+    return client_entered(it->client, it);
 }
 
 static inline object_cell *cell_at_home(const ferretgold_object_cache *cache) {
-    return (object_cell *)(void *)((char *)object_self.cell + cache->home);
+    return (object_cell *)(void *)((char *)__builtin_thread_pointer() + cache->home);
 }
 
 static inline object_cell *cell_of(const ferretgold_object_cache *cache) {

@@ -73,7 +73,7 @@ object_cell *cell_found(const ferretgold_object_cache *cache) {
         it = cell_freed();
     }
     if (it != NULL) {
-        *it = (object_cell){cache->life, NULL, NULL, NULL, NULL, 0};
+        *it = (object_cell){cache->life, 0, NULL, NULL, NULL, NOBODY, 0};
     }
     return it;
 }
@@ -111,8 +111,9 @@ void client_unclaimed(object_client *client) {
 static void adopt(object_cell *it, object_client *client) {
     it->client = client;
     it->in_use = client;
+    it->token = own_token();
     atomic_store(&client->inside, true);
-    atomic_store(&client->claim, own_token());
+    atomic_store(&client->claim, it->token);
 }
 
 /* Claims a client that this token names, from a number on; null if there is none. */

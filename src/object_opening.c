@@ -61,7 +61,7 @@ static ferretgold_object_cache *made(const ferretgold_object_config *config) {
     memset(it, 0, size);
     it->config = *config;
     it->life = atomic_fetch_add(&lives, 1) + 1;
-    it->home = (uint32_t)(it->life % CELLS * sizeof(object_cell));
+    it->home = (char *)&object_self.cell[it->life % CELLS] - (char *)__builtin_thread_pointer();
     it->client = (object_client *)(void *)(it + 1);
     it->spare = (record *)(void *)&it->client[config->clients];
     record *records = it->spare + config->clients;
@@ -70,6 +70,7 @@ static ferretgold_object_cache *made(const ferretgold_object_config *config) {
         client->cache = it;
         client->number = number;
         client->records = &records[(size_t)number * config->handles];
+        client->size = config->handles * sizeof(record);
         for (uint32_t k = 0; k < config->handles; k++) {
             client->records[k].handle.index = k;
             client->records[k].handle.client = number;
@@ -219,7 +220,7 @@ static void settle_all(ferretgold_object_cache *cache, object_cell *it) {
             if (has_returned(client) || client->untaken) {
                 it->in_use = client;
                 again = true;
-                give_back_all(client);
+                give_back_all(it);
             }
         }
     }

@@ -5,6 +5,7 @@
 
 #include "ferretgold.hpp"
 #include "ferretgold_file.hpp"
+#include "ferretgold_rocksdb.hpp"
 
 #include <rocksdb/cache.h>
 
@@ -232,8 +233,8 @@ class twin {
     std::uint32_t next_ = 0;
 };
 
-// A cache of RocksDB. Its values are bytes of their own, taken by `new` and freed by a deleter, as
-// blocks are.
+// A block cache of RocksDB. Its values are bytes of their own, taken by `new` and freed by a deleter,
+// as blocks are.
 class rocks {
   public:
     class reader {
@@ -319,6 +320,16 @@ class hyper_clock : public rocks {
         : rocks(rocksdb::HyperClockCacheOptions(sizes.capacity, 1, bits(sizes.shards), false,
                                                 nullptr, rocksdb::kDontChargeCacheMetadata)
                     .MakeSharedCache()) {}
+};
+
+// This project's, with as many slots by the same charge.
+class ferret_rocksdb : public rocks {
+  public:
+    static std::string name() { return "ferretgold-rocksdb"; }
+
+    explicit ferret_rocksdb(const sizes &sizes)
+        : rocks(ferretgold::NewFerretgoldCache({sizes.capacity, 1, bits(sizes.shards), false,
+                                                nullptr, rocksdb::kDontChargeCacheMetadata})) {}
 };
 
 class lru : public rocks {

@@ -189,11 +189,11 @@ class object_cache : public cache {
 
     bool read(std::uint32_t block) override {
         const ferretgold_key key = key_of(block);
-        ferretgold_handle held;
-        ferretgold_object_value object;
-        if (ferretgold_raw_object_lookup(&client_, &key, &held, &object) == FERRETGOLD_OK) {
-            must(object.address == object_of(block).address, "a look-up");
-            release(held, true);
+        ferretgold_held_object held;
+        held.key = key;
+        if (ferretgold_raw_object_hold(&client_, &held) == FERRETGOLD_OK) {
+            must(held.object.address == object_of(block).address, "a look-up");
+            release(held.handle, true);
             return true;
         }
         insert(key, block);

@@ -7,7 +7,7 @@ import subprocess
 import sys
 
 CASES = "hits-uniform", "touch", "get", "misses", "mix", "evict", "pinned"
-CACHES = "ferretgold", "twin", "rocksdb-hyperclock", "rocksdb-lru"
+CACHES = "ferretgold", "twin", "ferretgold-rocksdb", "rocksdb-hyperclock", "rocksdb-lru"
 OF_OBJECTS = "touch"  # what a cache of objects and the twin with a word as value play
 FEW, MANY = 2_000, 10_000
 
@@ -25,15 +25,15 @@ def main():
     if len(sys.argv) < 2:
         sys.exit(__doc__)
     program, *cases = sys.argv[1:]
-    print(f"{'case':13}{'bytes':>6}" + "".join(f"{it.removeprefix('rocksdb-'):>12}" for it in CACHES))
+    print(f"{'case':13}{'bytes':>6}" + "".join(f"{it:>20}" for it in CACHES))
     for case in cases or CASES:
         for value_size in (16, 256, 4096):
             row = ""
             for cache in CACHES:
-                if case == OF_OBJECTS and not cache.startswith("rocksdb"):
+                if case == OF_OBJECTS and cache in ("ferretgold", "twin"):
                     cache += "-objects"
                 few, many = (counted(program, cache, case, value_size, it) for it in (FEW, MANY))
-                row += f"{(many - few) / (MANY - FEW):12.0f}"
+                row += f"{(many - few) / (MANY - FEW):20.0f}"
             print(f"{case:13}{value_size:6}{row}", flush=True)
 
 

@@ -96,13 +96,13 @@ class ferret_objects {
       private:
         [[gnu::always_inline]] bool look(const ferretgold_key &key, std::uint8_t *buffer,
                                          std::uint32_t bytes) {
-            ferretgold_handle found;
-            ferretgold_object_value object;
-            if (ferretgold_raw_object_lookup(client_, &key, &found, &object) != FERRETGOLD_OK) {
+            ferretgold_held_object held;
+            held.key = key;
+            if (ferretgold_raw_object_hold(client_, &held) != FERRETGOLD_OK) {
                 return false;
             }
-            std::memcpy(buffer, block_at(object.address), bytes);
-            release(found);
+            std::memcpy(buffer, block_at(held.object.address), bytes);
+            release(held.handle);
             return true;
         }
         void release(const ferretgold_handle &held) {

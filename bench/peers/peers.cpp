@@ -8,10 +8,11 @@
 // in another order; and each round begins with the next of them. What else a processor has to do makes
 // them slower, so each thread stays on one: in a round the same for all caches, in the next another.
 //
-// An option that is left out stands for all there are, but for one cache. ferretgold-objects has blocks
+// An option that is left out stands for all there are, but for two caches. ferretgold-objects has blocks
 // by pointer, as RocksDB's caches have: it plays all but `pinned`, and sizes of up to 65,536 bytes, of
 // which those above 4,096 leave out ferretgold and its twin; and `touch`, a hit of which the block's
-// first word is read, against RocksDB's and the twin with a word as value. `blocks-unseeded` leaves out
+// first word is read, against RocksDB's and the twin with a word as value. ferretgold-rocksdb plays the
+// same by the calls of RocksDB's block cache. `blocks-unseeded` leaves out
 // the caches that always spread keys; `save` and `load` leave out all but ferretgold, and all numbers of
 // threads but one. A cache has 16,384 slots, or, by --megabytes, the power of two with which Ferretgold's
 // table comes nearest to so many, and so many shards that none has above 65,536 (`pinned` leaves out
@@ -80,9 +81,9 @@ std::uint64_t value_size_of(const std::string &word) {
 }
 
 std::string cache_of(const std::string &word) {
-    const std::string all[] = {ferret::name(),       twin::name(),        ferret_objects::name(),
-                               twin_objects::name(), hyper_clock::name(), lru::name(),
-                               lru_sharded::name()};
+    const std::string all[] = {ferret::name(),         twin::name(),        ferret_objects::name(),
+                               ferret_rocksdb::name(), twin_objects::name(), hyper_clock::name(),
+                               lru::name(),            lru_sharded::name()};
     if (std::find(std::begin(all), std::end(all), word) == std::end(all)) {
         stop("there is no cache " + word);
     }
@@ -189,6 +190,9 @@ std::vector<maker> makers_of(kind is, const sizes &sizes) {
         if (is != kind::pinned && is != kind::touch) {
             all.push_back(maker_of<ferret_objects>());
         }
+        if (is != kind::pinned) {
+            all.push_back(maker_of<ferret_rocksdb>());
+        }
         all.push_back(maker_of<hyper_clock>());
         all.push_back(maker_of<lru>());
         all.push_back(maker_of<lru_sharded>());
@@ -200,7 +204,8 @@ std::vector<maker> makers_of(kind is, const sizes &sizes) {
 std::vector<maker> makers_of(const options &asked, kind is, const sizes &sizes) {
     std::vector<maker> some;
     for (maker &it : makers_of(is, sizes)) {
-        bool is_usual = is == kind::touch || it.name != ferret_objects::name();
+        bool is_usual = it.name != ferret_rocksdb::name()
+                        && (is == kind::touch || it.name != ferret_objects::name());
         if (asked.caches.empty() ? is_usual : is_asked(asked.caches, it.name)) {
             some.push_back(std::move(it));
         }
@@ -232,7 +237,8 @@ std::uint64_t operations_of(const players &all) {
 }
 
 const char *build_of(const std::string &cache) {
-    if (cache == ferret::name() || cache == ferret_objects::name()) {
+    if (cache == ferret::name() || cache == ferret_objects::name()
+        || cache == ferret_rocksdb::name()) {
         return "proved";
     }
     return cache == twin::name() || cache == twin_objects::name() ? "unproved" : PEERS_BUILD;

@@ -47,7 +47,8 @@ lends() {
 
 # Makes the calls of ferretgold_object.h.
 objects() {
-    builds tests/c/{object,object_bytes,object_seeds,object_threads,heap}.c $out/libferretgold.a $wrap && runs 100000
+    builds tests/c/{object,object_bytes,object_opening,object_seeds,object_threads,heap}.c $out/libferretgold.a $wrap \
+        && runs 100000
 }
 
 # The checking library ends a program in which two calls meet in one client.

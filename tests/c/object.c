@@ -1,6 +1,7 @@
 /* The calls of ferretgold_object.h on one thread: answers and refusals, whose the object is after
- * each, when deleters run and what they may do, and the memory of a cache. tests/c/object_threads.c
- * has what several threads do, object_bytes.c has bytes. Linked with heap.c.
+ * each, when deleters run and what they may do. tests/c/object_opening.c has configurations and the
+ * memory of a cache, object_seeds.c seeds, object_bytes.c bytes, object_threads.c what several threads
+ * do. Linked with heap.c.
  * Usage: object [OPERATIONS]          of eight threads: 1,000,000 at most and by default
  *        object threads OPERATIONS    these alone
  *        object owned                 ends by the checking library's line */
@@ -69,6 +70,16 @@ static int insert(ferretgold_object_cache *cache, uint64_t number, void *object,
     ferretgold_inserted inserted = 9;
     const ferretgold_status status =
         ferretgold_object_insert(cache, &key, object, 3, charge, FERRETGOLD_LOW, &inserted);
+    return status == FERRETGOLD_OK ? (int)inserted : (int)status;
+}
+
+/* The same with a handle that is given back at once, as no use. */
+static int insert_unused(ferretgold_object_cache *cache, uint64_t number, void *object,
+                         uint32_t charge, ferretgold_priority priority) {
+    const ferretgold_key key = key_of(number);
+    ferretgold_inserted inserted = 9;
+    const ferretgold_status status = ferretgold_object_insert_pinned(
+        cache, &key, object, 3, charge, priority, &inserted, NULL);
     return status == FERRETGOLD_OK ? (int)inserted : (int)status;
 }
 
@@ -166,6 +177,53 @@ static void alone(void) {
     EXPECT(log.count, 2);
 }
 
+/* An insertion that wants no handle is one whose handle is given back as no use: to the deleters of
+ * two caches the same objects come in the same order. */
+static void unused(void) {
+    journal logs[2] = {{0}};
+    ferretgold_object_cache *caches[2] = {NULL};
+    ferretgold_object_config config = small_cache();
+    config.slots = 32;
+    config.capacity = 12;
+    for (unsigned n = 0; n < 2; n++) {
+        caches[n] = opened(&config, note, &logs[n]);
+    }
+    for (uint64_t k = 0; k < 60; k++) {
+        const ferretgold_key key = key_of(k), older = key_of(k / 2);
+        const ferretgold_priority priority = (ferretgold_priority)(k % 3);
+        const ferretgold_object_handle *handle = NULL;
+        EXPECT(insert_unused(caches[0], k, &logs[k % 2], 1, priority), FERRETGOLD_PLACED);
+        EXPECT(ferretgold_object_insert_pinned(caches[1], &key, &logs[k % 2], 3, 1, priority, NULL,
+                                               &handle), FERRETGOLD_OK);
+        EXPECT(ferretgold_object_release(caches[1], handle, false, false, NULL), FERRETGOLD_OK);
+        for (unsigned n = 0; n < 2; n++) {
+            if (ferretgold_object_lookup(caches[n], &older, &handle) == FERRETGOLD_OK) {
+                (void)released(caches[n], handle);
+            }
+        }
+    }
+    EXPECT(logs[0].count >= 48, true);
+    EXPECT(memcmp(&logs[0], &logs[1], sizeof logs[0]), 0);
+    for (unsigned n = 0; n < 2; n++) {
+        EXPECT(ferretgold_object_close(caches[n]), FERRETGOLD_OK);
+    }
+}
+
+/* Where it would stand alone it stays the caller's. */
+static void unused_and_dropped(void) {
+    journal log = {0};
+    const ferretgold_object_config config = small_cache();
+    ferretgold_object_cache *cache = opened(&config, note, &log);
+    int block = 0;
+    EXPECT(insert_unused(cache, 1, &log, 10, FERRETGOLD_LOW), FERRETGOLD_PLACED);
+    EXPECT(insert_unused(cache, 1, &block, 10, FERRETGOLD_LOW), FERRETGOLD_DROPPED);
+    EXPECT(log.count, 0);
+    EXPECT(erase(cache, 1), 1);
+    EXPECT(log.count == 1 && log.deleted[0].object == &log, true);
+    EXPECT(ferretgold_object_close(cache), FERRETGOLD_OK);
+    EXPECT(log.count, 1);
+}
+
 /* A walk holds what is there. */
 static void walk(void) {
     journal log = {0};
@@ -260,6 +318,8 @@ static void bad_arguments(void) {
                                         &inserted), REFUSED[k].status);
         EXPECT(ferretgold_object_insert_pinned(cache, &key, object, 1, REFUSED[k].charge, priority,
                                                &inserted, &handle), REFUSED[k].status);
+        EXPECT(ferretgold_object_insert_pinned(cache, &key, object, 1, REFUSED[k].charge, priority,
+                                               &inserted, NULL), REFUSED[k].status);
     }
     EXPECT(inserted == 9 && handle == NULL, true);
     EXPECT(ferretgold_object_lookup(cache, &key, &handle), FERRETGOLD_MISS);
@@ -290,7 +350,9 @@ static void null_pointers(void) {
     EXPECT(ferretgold_object_release(cache, NULL, false, false, NULL), FERRETGOLD_NULL);
     EXPECT(ferretgold_object_insert(cache, NULL, NULL, 1, 0, 0, NULL), FERRETGOLD_NULL);
     EXPECT(ferretgold_object_insert(NULL, &key, NULL, 1, 0, 0, NULL), FERRETGOLD_NULL);
-    EXPECT(ferretgold_object_insert_pinned(cache, &key, NULL, 1, 0, 0, NULL, NULL),
+    EXPECT(ferretgold_object_insert_pinned(cache, NULL, NULL, 1, 0, 0, NULL, &handle),
+           FERRETGOLD_NULL);
+    EXPECT(ferretgold_object_insert_pinned(NULL, &key, NULL, 1, 0, 0, NULL, &handle),
            FERRETGOLD_NULL);
     EXPECT(ferretgold_object_erase(cache, NULL, NULL), FERRETGOLD_NULL);
     EXPECT(ferretgold_object_usage(cache, NULL), FERRETGOLD_NULL);
@@ -298,33 +360,6 @@ static void null_pointers(void) {
     EXPECT(ferretgold_object_occupancy(NULL, &(uint64_t){0}), FERRETGOLD_NULL);
     EXPECT(ferretgold_object_memory(NULL), 0);
     EXPECT(ferretgold_object_close(cache), FERRETGOLD_OK);
-}
-
-/* Each field of a configuration that is out of its range. */
-static void bad_configs(void) {
-    const int wanted[] = {FERRETGOLD_BAD_SIZE, FERRETGOLD_BAD_SLOTS, FERRETGOLD_BAD_CLIENTS,
-                          FERRETGOLD_BAD_HANDLES, FERRETGOLD_BAD_SHARDS, FERRETGOLD_BAD_CAPACITY,
-                          FERRETGOLD_BAD_SERIALS, FERRETGOLD_BAD_GONE};
-    ferretgold_object_config all[8];
-    for (size_t k = 0; k < 8; k++) {
-        all[k] = small_cache();
-    }
-    all[0].size = 40;
-    all[1].slots = 4;
-    all[2].clients = 0;
-    all[3].handles = 0;
-    all[4].shards = 0;
-    all[5].capacity = (UINT64_C(1) << 40) + 1;
-    all[6].serials = 0;
-    all[7].gone = 3;
-    heap_left = 0;
-    for (size_t k = 0; k < 8; k++) {
-        ferretgold_object_cache *cache = NULL;
-        EXPECT(ferretgold_object_config_check(&all[k]), wanted[k]);
-        EXPECT(ferretgold_object_memory(&all[k]), 0);
-        EXPECT(ferretgold_object_open(&all[k], note, NULL, &cache), wanted[k]);
-    }
-    heap_left = SIZE_MAX;
 }
 
 /* A refused insertion runs the deleters of what was evicted for it, and not that of its object. */
@@ -361,9 +396,13 @@ static void many_handles(void) {
     int block = 0;
     EXPECT(insert(cache, 1, &block, 10), FERRETGOLD_PLACED);
     for (unsigned k = 0; k < 12; k++) {
+        if (k % 4 == 0) {
+            EXPECT(insert_unused(cache, 2 + k, NULL, 5, FERRETGOLD_LOW), FERRETGOLD_PLACED);
+        }
         handles[k] = held(cache, 1);
     }
     EXPECT(ferretgold_object_lookup(cache, &key, &handles[12]), FERRETGOLD_HANDLES_FULL);
+    EXPECT(insert_unused(cache, 3, &block, 10, FERRETGOLD_LOW), FERRETGOLD_HANDLES_FULL);
     EXPECT(ferretgold_object_close(cache), FERRETGOLD_HANDLES_OUT);
     for (unsigned k = 0; k < 12; k += 2) {
         (void)released(cache, handles[k]);
@@ -375,7 +414,7 @@ static void many_handles(void) {
         (void)released(cache, handles[k]);
     }
     EXPECT(ferretgold_object_close(cache), FERRETGOLD_OK);
-    EXPECT(log.count, 1);
+    EXPECT(log.count, 4);
 }
 
 /* So is one that used all its serials: an insertion and a look-up use one. */
@@ -419,8 +458,38 @@ static void long_evictions(void) {
     (void)released(cache, handle);
     EXPECT(insert(cache, 51, NULL, 100), FERRETGOLD_PLACED);
     EXPECT(log.count, 11);
+    EXPECT(erase(cache, 51), 1);
+    for (unsigned k = 0; k < 10; k++) {
+        EXPECT(insert(cache, k, NULL, 10), FERRETGOLD_PLACED);
+    }
+    EXPECT(insert_unused(cache, 52, NULL, 90, FERRETGOLD_HIGH), FERRETGOLD_PLACED);
+    EXPECT(log.count, 21);
     EXPECT(ferretgold_object_close(cache), FERRETGOLD_OK);
-    EXPECT(log.count, 12);
+    EXPECT(log.count, 23);
+}
+
+/* A handle of another cache, of the same client and index there, is none. */
+static void others_handles(void) {
+    journal log = {0};
+    const ferretgold_object_config config = small_cache();
+    ferretgold_object_cache *caches[2] = {NULL};
+    const ferretgold_object_handle *handles[2] = {NULL};
+    bool freed = true;
+    for (unsigned n = 0; n < 2; n++) {
+        caches[n] = opened(&config, note, &log);
+        EXPECT(insert(caches[n], 1, NULL, 10), FERRETGOLD_PLACED);
+        handles[n] = held(caches[n], 1);
+    }
+    for (unsigned n = 0; n < 2; n++) {
+        EXPECT(ferretgold_object_ref(caches[n], handles[1 - n]), FERRETGOLD_NO_HANDLE);
+        EXPECT(ferretgold_object_release(caches[n], handles[1 - n], true, true, &freed),
+               FERRETGOLD_NO_HANDLE);
+    }
+    EXPECT(freed, true);
+    for (unsigned n = 0; n < 2; n++) {
+        EXPECT(released(caches[n], handles[n]), false);
+        EXPECT(ferretgold_object_close(caches[n]), FERRETGOLD_OK);
+    }
 }
 
 /* ---- Deleters that call the cache ------------------------------------------------------------ */
@@ -501,75 +570,25 @@ static void coming_back(void) {
     EXPECT(it.put == FERRETGOLD_DROPPED && it.closed == FERRETGOLD_CLIENTS_OUT, true);
 }
 
-/* ---- Memory ---------------------------------------------------------------------------------- */
-
-/* What is allocated is what ferretgold_object_memory says; an opening that is refused leaves
- * nothing. */
-static void memory(void) {
-    const struct {
-        uint32_t slots, clients, handles, gone, shards;
-    } all[] = {{8, 1, 1, 4, 1}, {64, 65, 3, 7, 2}, {65536, 2, 5, 256, 1},
-               {1024, 3, 16384, 65536, 4}};
-    for (size_t k = 0; k < sizeof all / sizeof *all; k++) {
-        ferretgold_object_config config = small_cache();
-        config.slots = all[k].slots;
-        config.clients = all[k].clients;
-        config.handles = all[k].handles;
-        config.gone = all[k].gone;
-        config.shards = all[k].shards;
-        const size_t was = heap_bytes;
-        ferretgold_object_cache *cache = opened(&config, note, NULL);
-#ifndef FERRETGOLD_CHECK
-        EXPECT(heap_bytes - was, ferretgold_object_memory(&config));
-#endif
-        EXPECT(ferretgold_object_close(cache), FERRETGOLD_OK);
-        EXPECT(heap_bytes, was);
-    }
-}
-
-static void no_memory(void) {
-    const size_t many = 1 << 20, blocks = heap_blocks;
-    const ferretgold_object_config config = small_cache();
-    heap_left = many;
-    ferretgold_object_cache *cache = opened(&config, note, NULL);
-    const size_t requests = many - heap_left;
-    EXPECT(ferretgold_object_close(cache), FERRETGOLD_OK);
-    for (size_t number = 0; number < 2 * requests; number++) {
-        heap_left = number / 2;
-        heap_once = number % 2;
-        EXPECT(ferretgold_object_open(&config, note, NULL, &cache), FERRETGOLD_OUT_OF_MEMORY);
-        heap_left = SIZE_MAX;
-        EXPECT(heap_blocks, blocks);
-    }
-    heap_once = 0;
-}
-
 /* ---- What the program is -------------------------------------------------------------------- */
 
 static void object_rows(void) {
-    ferretgold_object_config config = small_cache(), same;
-    memory();
-    no_memory();
-    bad_configs();
     null_pointers();
     bad_arguments();
     life();
     twice();
     alone();
+    unused();
+    unused_and_dropped();
     walk();
     totals();
     refused_after_evictions();
     many_handles();
     many_serials();
+    others_handles();
     long_evictions();
     long_chain();
     coming_back();
-    ferretgold_object_cache *cache = opened(&config, note, NULL);
-    EXPECT(ferretgold_object_config_of(cache, &same), FERRETGOLD_OK);
-    EXPECT(memcmp(&config, &same, sizeof config), 0);
-    EXPECT(ferretgold_object_close(cache), FERRETGOLD_OK);
-    config = (ferretgold_object_config)FERRETGOLD_OBJECT_CONFIG;
-    EXPECT(ferretgold_object_config_check(&config), FERRETGOLD_OK);
 }
 
 /* The checking library ends the program at the second insertion of an object that stands. */
@@ -597,6 +616,7 @@ int main(int count, char **words) {
     const bool rows = count < 3;
     if (rows) {
         object_rows();
+        object_opening();
         object_bytes();
         object_seeds();
     }

@@ -482,25 +482,18 @@ uint32_t ferretgold_raw_objects_end(ferretgold_object left, ferretgold_object *)
     return FERRETGOLD_OK;
 }
 
-uint32_t ferretgold_raw_object_lookup(ferretgold_object *it, const ferretgold_key *key,
-                                      ferretgold_handle *handle, ferretgold_object_value *value) {
+uint32_t ferretgold_raw_object_hold(ferretgold_object *it, ferretgold_held_object *held) {
     client &by = client_of(it);
     if (const uint32_t why = by.refuses(); why != FERRETGOLD_OK) {
         return why;
     }
-    shard &in = by.cache->of(*key);
-    const std::size_t at = in.find(*key);
+    shard &in = by.cache->of(held->key);
+    const std::size_t at = in.find(held->key);
     if (at == in.size()) {
         return FERRETGOLD_MISS;
     }
-    *value = in.entry(at).value;
-    *handle = by.keep({0, &in, at, false, in.entry(at)});
-    return FERRETGOLD_OK;
-}
-
-uint32_t ferretgold_raw_object_charge(ferretgold_object *it, const ferretgold_handle *handle,
-                                      uint64_t *charge) {
-    *charge = client_of(it).places[handle->index].it.charge;
+    const object entry = in.entry(at);
+    *held = {by.keep({0, &in, at, false, entry}), entry.key, entry.value, entry.charge};
     return FERRETGOLD_OK;
 }
 

@@ -18,6 +18,9 @@ void expect(const char *file, int line, const char *what, long long is, long lon
 /* A small cache: 8 slots, 100 of capacity, one client with 4 handles. */
 ferretgold_object_config small_cache(void);
 
+/* Configurations, and memory. */
+void object_opening(void);
+
 /* Objects that are bytes. */
 void object_bytes(void);
 

@@ -222,6 +222,10 @@ static void nowhere(void) {
     EXPECT(ferretgold_object_insert(cache, &key, NULL, 1, 1, FERRETGOLD_LOW, &inserted),
            FERRETGOLD_OK);
     EXPECT(inserted, FERRETGOLD_DROPPED);
+    inserted = 9;
+    EXPECT(ferretgold_object_insert_pinned(cache, &key, NULL, 1, 1, FERRETGOLD_LOW, &inserted,
+                                           NULL), FERRETGOLD_OK);
+    EXPECT(inserted, FERRETGOLD_DROPPED);
     EXPECT(ferretgold_object_insert(cache, &key, NULL, 1, 0, (ferretgold_priority)3, NULL),
            FERRETGOLD_BAD_PRIORITY);
     EXPECT(ferretgold_object_insert(cache, &key, NULL, 1, 0, FERRETGOLD_LOW, NULL),
@@ -411,7 +415,8 @@ static void erase_one(worker *it) {
 static bool insert_next(worker *it) {
     object *one = it->next++;
     const ferretgold_key key = key_of(drawn(it, KEYS));
-    const bool pinned = it->holds < HELD && drawn(it, 4) == 0;
+    const uint64_t way = drawn(it, 4);
+    const bool pinned = it->holds < HELD && way == 0;
     const ferretgold_priority priority = (ferretgold_priority)drawn(it, 3);
     const uint32_t charge = 1 + (uint32_t)(key.w0 % 8);
     const uint16_t kind = (uint16_t)(3 * key.w0);
@@ -421,9 +426,9 @@ static bool insert_next(worker *it) {
     one->canary = (uint16_t)(CANARY ^ key.w0);
     it->wrong += goes(one, OWN, INSERTED);
     const ferretgold_status status =
-        pinned ? ferretgold_object_insert_pinned(it->cache, &key, one, kind, charge, priority,
-                                                 &inserted, &handle)
-               : ferretgold_object_insert(it->cache, &key, one, kind, charge, priority, &inserted);
+        way < 2 ? ferretgold_object_insert_pinned(it->cache, &key, one, kind, charge, priority,
+                                                  &inserted, pinned ? &handle : NULL)
+                : ferretgold_object_insert(it->cache, &key, one, kind, charge, priority, &inserted);
     if (status != FERRETGOLD_OK || inserted == FERRETGOLD_DROPPED) {
         it->wrong += goes(one, INSERTED, OWN);
         return false;

@@ -119,17 +119,22 @@ static void gives_back(worker *it) {
 
 static void looks_up(worker *it) {
     const ferretgold_key key = drawn_key(it);
-    ferretgold_handle handle;
-    ferretgold_object_value value;
-    if (ferretgold_raw_object_lookup(&it->client, &key, &handle, &value) != FERRETGOLD_OK) {
+    ferretgold_held_object held = {.key = key, .charge = 0};
+    if (ferretgold_raw_object_hold(&it->client, &held) != FERRETGOLD_OK) {
+        it->wrong += held.key.w0 != key.w0 || held.key.w1 != key.w1 || held.charge != 0;
         return;
     }
-    keep(it, object_of(&value), handle, value.kind);
-    it->wrong += object_of(&value)->key != key.w0;
+    object *one = object_of(&held.object);
+    keep(it, one, held.handle, held.object.kind);
+    it->wrong += one->key != key.w0 || held.key.w0 != key.w0 || held.key.w1 != key.w1;
+    uint64_t charge = 0;
+    it->wrong += ferretgold_raw_object_charge(&it->client, &held.handle, &charge) != FERRETGOLD_OK;
+    it->wrong += charge < 1 || charge > 8 || held.charge != charge;
     if (it->holds < HANDLES && drawn(it, 4) == 0) {
         ferretgold_handle more;
-        it->wrong += ferretgold_raw_object_reref(&it->client, &handle, &more) != FERRETGOLD_OK;
-        keep(it, object_of(&value), more, value.kind);
+        it->wrong += ferretgold_raw_object_reref(&it->client, &held.handle, &more)
+                     != FERRETGOLD_OK;
+        keep(it, one, more, held.object.kind);
     }
 }
 

@@ -35,7 +35,7 @@ HANDS = [f"src/object{it}.c" for it in ("", "_bytes", "_clients", "_opening", "_
 FILES = ["include/ferretgold.h", "include/ferretgold_inline.h", "include/ferretgold.hpp", *OBJECTS, *SAVES, *HANDS]
 APART = {*SAVES, *HANDS}  # what no trace shows
 # The functions with bugs, in files of which not all have them.
-CHOSEN = {"src/object.c": "shown ferretgold_object_ref take_back ferretgold_object_erase told".split(),
+CHOSEN = {"src/object.c": "shown shown_by ferretgold_object_ref unpin take_back ferretgold_object_erase told".split(),
           **{it: [] for it in HANDS[1:]}}
 CALLS = {"include/ferretgold_inline.h", "src/ferretgold.c"}  # where the checking library differs
 HEADERS = ["include/ferretgold_raw.h", "include/ferretgold_closed.h", "include/ferretgold_object.h",
@@ -45,7 +45,7 @@ CHANCE = "by chance: "
 PLAYS = [f"tests/c/{it}.c" for it in ("play", "edges", "seeds", "budgets", "closed", "image")]
 CPP = ["tests/c/play.cpp", "tests/c/closed.cpp"]
 STREAMS = ["tests/c/file.cpp"]
-HANDED = [f"tests/c/object{it}.c" for it in ("", "_bytes", "_seeds", "_threads")]
+HANDED = [f"tests/c/object{it}.c" for it in ("", "_bytes", "_opening", "_seeds", "_threads")]
 PROVED = TOP / "crates/hcc_c/out/libhcc_c.a"
 WRAP = "-Wl,--wrap=malloc,--wrap=realloc,--wrap=aligned_alloc,--wrap=free,--wrap=getrandom"
 MET = "ferretgold: two threads use client 0 at once: ferretgold_usage and ferretgold_insert_pinned\n"

@@ -50,14 +50,16 @@ hands() {
     builds_counting "$2" cc -std=c11 "${@:3}" tests/c/objects.c && "$folder/built" "$1"
 }
 
+of_objects=(tests/c/object{,_bytes,_opening,_seeds,_threads}.c)
+
 # Makes the calls of ferretgold_object.h, so many by threads: objects OPERATIONS LIBRARY WORD..
 objects() {
-    builds_counting "$2" cc -std=c11 "${@:3}" tests/c/object{,_bytes,_seeds,_threads}.c && "$folder/built" "$1"
+    builds_counting "$2" cc -std=c11 "${@:3}" "${of_objects[@]}" && "$folder/built" "$1"
 }
 
 # The calls of threads alone: objects_of_threads OPERATIONS WORD..
 objects_of_threads() {
-    builds_counting -lstdc++ cc -std=c11 tests/c/object{,_bytes,_seeds,_threads}.c "${@:2}" && "$folder/built" threads "$1"
+    builds_counting -lstdc++ cc -std=c11 "${of_objects[@]}" "${@:2}" && "$folder/built" threads "$1"
 }
 
 # The same of its wrapper for C++: wraps OPERATIONS LIBRARY WORD..

@@ -22,23 +22,7 @@ abbrev pub status_of_checked : Result (Unit {0}) ObjectNewError → ℕ
 status_of_checked (Ok allowed) = 0
 status_of_checked (Err why) = code_of (opening_objects_of why)
 
--- a look-up
-abbrev pub status_of_found : Result (Option (CHandle × Object)) LookupError → ℕ
-status_of_found (Ok None) = 1
-status_of_found (Ok (Some found)) = 0
-status_of_found (Err why) = code_of (looking_of why)
-
-abbrev pub handle_found : Result (Option (CHandle × Object)) LookupError → CHandle → CHandle
-handle_found (Ok None) old = old
-handle_found (Ok (Some found)) old = found.0
-handle_found (Err why) old = old
-
-abbrev pub object_found : Result (Option (CHandle × Object)) LookupError → CObject → CObject
-object_found (Ok None) old = old
-object_found (Ok (Some found)) old = c_object_of found.1
-object_found (Err why) old = old
-
--- what a walk holds at a slot
+-- what a look-up holds, and a walk at a slot
 abbrev pub status_of_held : Result (Option CHeldObject) LookupError → ℕ
 status_of_held (Ok None) = 1
 status_of_held (Ok (Some held)) = 0

@@ -1,6 +1,6 @@
 -- What each call of a client of a cache of objects comes to: what it answers, and what it leaves of
 -- the session.
-use Rattle.std.specs.Prelude.{◌≡◌, ℕ, ◌+◌, ◌*◌, ◌/◌, ◌<◌, ◌≤◌, ◌^◌, ◌++◌, ◌∷◌, [], ◌↔◌, Bool, true, Option, Result, Err, IfOk, IfErr, IfSome, IfNone, None, Ok, OnOk, OnErr, IsOk, IsErrOf, MatchResult, length}
+use Rattle.std.specs.Prelude.{◌≡◌, ℕ, ◌+◌, ◌*◌, ◌/◌, ◌<◌, ◌≤◌, ◌^◌, ◌++◌, ◌∷◌, [], ◌↔◌, Bool, true, Option, Result, Err, IfOk, IfErr, IfSome, IfNone, None, Some, Ok, OnOk, OnErr, IsOk, IsErrOf, MatchResult, length}
 use Rattle.std.specs.Arc.{arc_value}
 use Rattle.hcc_word.specs.declared.objects.TheConstants.{ADDRESS_BITS}
 use Rattle.hcc_core.specs.declared.limits.TheConstants.{OCCUPANCY_PERCENT}
@@ -34,8 +34,8 @@ use Rattle.hcc_c.specs.declared.shapes.Counts.{Counts}
 use Rattle.hcc_c.specs.declared.shapes.CHandle.{CHandle}
 use Rattle.hcc_c.specs.ObjectCounts.{counted_look, counted_pinned, counted_put}
 use Rattle.hcc_c.specs.ObjectSessions.{IsHandle, IsNone, below, client_in, judged}
-use Rattle.hcc_c.specs.ObjectShapes.{c_held_of}
-use Rattle.hcc_c.specs.Shapes.{c_handle_of}
+use Rattle.hcc_c.specs.ObjectShapes.{c_held_of, object_of as object_in}
+use Rattle.hcc_c.specs.Shapes.{c_handle_of, words_of}
 
 -- Nothing of the session changed but its client, and the counts are these.
 abbrev pub Keeps : Counts → (old new : ObjectSession) → Type 0
@@ -161,6 +161,24 @@ pub record TellsCharge (c_handle : CHandle) (answer : Option ℕ) (old new : Obj
   pub list : new.client.gone ≡ old.client.gone
   pub rest : Keeps old.counts old new
   pub steps : Within 1 old new
+
+-- what a look-up answers, of what is held by it
+abbrev pub found_of : Result (Option CHeldObject) LookupError
+    → Result (Option (CHandle × Object)) LookupError
+found_of (Ok None) = Ok None
+found_of (Ok (Some held)) = Ok (Some (held.handle, object_in held.object))
+found_of (Err why) = Err why
+
+-- A look-up for a key, and then what is charged for what it found.
+pub record Charges (key : Key) (answer : Result (Option CHeldObject) LookupError)
+    (old new : ObjectSession) : Type 0 where
+  pub between : ObjectSession
+  pub looks : LooksUp key (found_of answer) old between
+  pub words : IfOk answer (λ o. IfSome o (λ held. held.key ≡ words_of key))
+  pub charge : IfOk answer (λ o. IfSome o (λ held.
+      TellsCharge held.handle (Some held.charge) between new))
+  pub none : IfOk answer (λ o. IfNone o (new ≡ between))
+  pub refused : OnErr answer (new ≡ between)
 
 -- how many shards there are
 abbrev pub shards_in : ObjectSession → ℕ

@@ -2,7 +2,7 @@
 //! refused.
 ghost use Rattle.std.specs.Prelude.{◌≡◌, None};
 ghost use Rattle.hcc_c.specs.Answers.{placed, status_of_given};
-ghost use Rattle.hcc_c.specs.ObjectAnswers.{full_of, full_of_pinned, full_placed, full_refused, gone_key_or, gone_object_or, handle_found, handle_of_pinned, held_or, object_found, placing_of, placing_of_pinned, status_of_found, status_of_gone, status_of_held, status_of_pinned, status_of_put};
+ghost use Rattle.hcc_c.specs.ObjectAnswers.{full_of, full_of_pinned, full_placed, full_refused, gone_key_or, gone_object_or, handle_of_pinned, held_or, placing_of, placing_of_pinned, status_of_gone, status_of_held, status_of_pinned, status_of_put};
 
 use crate::answers::{DONE, MISSED};
 use crate::inserting::Unfit;
@@ -15,28 +15,7 @@ use crate::refusal::{Refusal, placing_code};
 use crate::shapes::{CHandle, Key};
 use hcc_cache::{LookupError, Object, ObjectError, Placing};
 
-/// Gives C what a look-up returned.
-pub(crate) fn told_found(
-    answer: Result<Option<(CHandle, Object)>, LookupError>,
-    handle: &mut CHandle,
-    object: &mut CObject,
-) -> u32
-    ensures status { result ≡ status_of_found answer }
-    ensures handle { handle.new ≡ handle_found answer handle.old }
-    ensures object { object.new ≡ object_found answer object.old }
-{
-    match answer {
-        Ok(Some((c_handle, found))) => {
-            *handle = c_handle;
-            *object = CObject::of(found);
-            DONE
-        }
-        Ok(None) => MISSED,
-        Err(why) => Refusal::looking(why).code(),
-    }
-}
-
-/// Gives C what a walk holds at a slot.
+/// Gives C what a look-up, or a walk at a slot, holds.
 pub(crate) fn told_held(
     answer: Result<Option<CHeldObject>, LookupError>,
     held: &mut CHeldObject,

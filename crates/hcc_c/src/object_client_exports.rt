@@ -3,8 +3,8 @@
 //! comes to.
 ghost use Rattle.std.specs.Prelude.{◌≡◌, None, IfSome};
 ghost use Rattle.hcc_c.specs.Answers.{key_or, more_of, status_of, status_of_reref, value_or};
-ghost use Rattle.hcc_c.specs.ObjectAnswers.{full_of, full_of_pinned, gone_key_or, gone_object_or, handle_found, handle_of_pinned, held_or, object_found, placing_of, placing_of_pinned, status_of_found, status_of_gone, status_of_held, status_of_pinned, status_of_put};
-ghost use Rattle.hcc_c.specs.ObjectCalls.{GivesBack, Hides, LooksUp, PinsAt, Puts, PutsPinned, RefersAgain, TakesGone, TellsCharge, TellsKey, TellsOccupancy, TellsPinned, TellsUsage};
+ghost use Rattle.hcc_c.specs.ObjectAnswers.{full_of, full_of_pinned, gone_key_or, gone_object_or, handle_of_pinned, held_or, placing_of, placing_of_pinned, status_of_gone, status_of_held, status_of_pinned, status_of_put};
+ghost use Rattle.hcc_c.specs.ObjectCalls.{Charges, GivesBack, Hides, PinsAt, Puts, PutsPinned, RefersAgain, TakesGone, TellsCharge, TellsKey, TellsOccupancy, TellsPinned, TellsUsage};
 ghost use Rattle.hcc_c.specs.ObjectLending.{IsThere};
 ghost use Rattle.hcc_c.specs.ObjectSessions.{IsWhole};
 ghost use Rattle.hcc_c.specs.ObjectShapes.{object_of};
@@ -12,30 +12,27 @@ ghost use Rattle.hcc_c.specs.Refusals.{code_of, priority_of};
 ghost use Rattle.hcc_c.specs.Shapes.{key_of};
 
 use crate::answers::{DONE, told, told_key, told_reref};
-use crate::object_answers::{told_found, told_gone, told_held, told_put, told_put_pinned};
+use crate::object_answers::{told_gone, told_held, told_put, told_put_pinned};
 use crate::object_holders::ObjectClientAt;
 use crate::object_shapes::{CHeldObject, CObject};
 use crate::refusal::{Refusal, priority_of};
 use crate::shapes::{CHandle, Key};
 
-/// Looks for an entry: gives a handle on it, and its object.
+/// Looks for an entry of the key in `held`, and gives the rest: the charge, too.
 #[unsafe(no_mangle)]
-pub extern "C" fn ferretgold_raw_object_lookup(
+pub extern "C" fn ferretgold_raw_object_hold(
     client: &mut ObjectClientAt,
-    key: &Key,
-    handle: &mut CHandle,
-    object: &mut CObject,
+    held: &mut CHeldObject,
 ) -> u32
     requires { IsWhole client.old.value }
     ensures there { IsThere client.old client.new }
     ensures whole { IsWhole client.new.value }
-    ensures looks { (answer : _)
-        × LooksUp (key_of key.now) answer client.old.value client.new.value
-        × (result ≡ status_of_found answer) × (handle.new ≡ handle_found answer handle.old)
-        × (object.new ≡ object_found answer object.old) }
+    ensures charges { (answer : _)
+        × Charges (key_of held.old.key) answer client.old.value client.new.value
+        × (result ≡ status_of_held answer) × (held.new ≡ held_or answer held.old) }
 {
-    let answer = client.session().lookup(key.key());
-    told_found(answer, handle, object)
+    let answer = client.session().hold(held.key.key());
+    told_held(answer, held)
 }
 
 /// Holds the entry of a slot of a shard, where it is visible: so a program walks over a cache.

@@ -1,31 +1,34 @@
 //! Handles on objects, which are given by their numbers, and given back; and objects that are
 //! handed back.
-ghost use Rattle.hcc_c.specs.ObjectCalls.{GivesBack, Hides, LooksUp, PinsAt, RefersAgain, TakesGone};
+ghost use Rattle.hcc_c.specs.ObjectCalls.{Charges, GivesBack, Hides, PinsAt, RefersAgain, TakesGone};
 ghost use Rattle.hcc_c.specs.ObjectSessions.{IsWhole};
 
 use crate::object_session::ObjectSession;
 use crate::object_shapes::CHeldObject;
 use crate::shapes::CHandle;
-use hcc_cache::{Key, LookupError, Object};
+use hcc_cache::{HeldObject, Key, LookupError, Object};
 
 impl ObjectSession {
     /// Looks for a visible entry of the key, as the cache does. The handle that it gives is named
-    /// by its numbers, and the object is that of its entry.
-    pub fn lookup(&mut self, key: Key) -> Result<Option<(CHandle, Object)>, LookupError>
+    /// by its numbers, and the object and the charge are those of its entry.
+    pub fn hold(&mut self, key: Key) -> Result<Option<CHeldObject>, LookupError>
         requires { IsWhole self.old }
         ensures whole { IsWhole self.new }
-        ensures looks { LooksUp key result self.old self.new }
+        ensures charges { Charges key result self.old self.new }
     {
-        match self.cache.lookup(&mut self.client, key)? {
-            Some((handle, object)) => {
-                self.counts.hit();
-                Ok(Some((CHandle::of(self.cache_number, handle), object)))
-            }
-            None => {
-                self.counts.miss();
-                Ok(None)
-            }
-        }
+        let Some((handle, object)) = self.cache.lookup(&mut self.client, key)? else {
+            self.counts.miss();
+            return Ok(None);
+        };
+        self.counts.hit();
+        let charge = self.cache.charge(&mut self.client, handle);
+        let held = HeldObject {
+            handle,
+            key,
+            object,
+            charge,
+        };
+        Ok(Some(CHeldObject::of(self.cache_number, held)))
     }
 
     /// Holds the entry of a slot of a shard, as the cache does; none where there is no such slot.
