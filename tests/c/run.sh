@@ -147,7 +147,7 @@ of_version() {
 
 # Links a program, and passes where a function isn't there for it: lacks_function NAME WORD..
 lacks_function() {
-    ! "${@:2}" -o "$folder/linked" > "$folder/said" 2>&1 && grep -qE "undefined (reference to .|symbol: )$1('|$)" "$folder/said"
+    ! "${@:2}" -o "$folder/linked" > "$folder/said" 2>&1 && grep -qE "undefined (reference to .|symbol: )$1\b" "$folder/said"
 }
 
 # A program that was compiled with the header of another MAJOR or MINOR doesn't link, nor does one of which
