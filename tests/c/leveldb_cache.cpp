@@ -416,6 +416,13 @@ void threads(long count, long operations) {
 
 // ---- A database --------------------------------------------------------------------------------
 
+// ThreadSanitizer sees none of LevelDB's own steps.
+#ifdef __SANITIZE_THREAD__
+constexpr bool READS = false;
+#else
+constexpr bool READS = true;
+#endif
+
 constexpr int ROWS = 20000, READERS = 4;
 
 std::string content_of(int number) {
@@ -482,7 +489,9 @@ int main(int count, char **words) {
     threads(8, operations);
     threads(100, operations / 4);
     EXPECT(lives.load(), 0);
-    database();
+    if (READS) {
+        database();
+    }
     std::printf("leveldb: %ld faults\n", faults.load());
     return faults.load() != 0;
 }

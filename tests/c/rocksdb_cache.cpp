@@ -569,6 +569,13 @@ void threads(unsigned long operations, bool is_strict) {
 
 // ---- A database --------------------------------------------------------------------------------
 
+// ThreadSanitizer sees none of RocksDB's own steps.
+#ifdef __SANITIZE_THREAD__
+constexpr bool READS = false;
+#else
+constexpr bool READS = true;
+#endif
+
 constexpr std::uint32_t KEYS = 20000;
 
 std::string row_of(std::uint32_t number) {
@@ -679,7 +686,9 @@ int main(int count, char **words) {
     const unsigned long operations = count > 2 ? std::strtoul(words[2], nullptr, 10) : 1000000;
     threads(operations, false);
     threads(operations, true);
-    database(words[1], false);
+    if (READS) {
+        database(words[1], false);
+    }
     std::printf("%lu operations of each kind of cache, %lu faults\n", operations, faults.load());
     return faults > 0;
 }
