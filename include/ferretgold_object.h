@@ -65,8 +65,8 @@
  *   A handle is a pointer to what it shows, which any thread may read until it is given back. Any
  *   thread may give it back. One that did not get it leaves it on a queue of its client; that gives
  *   it back at a later call, a few at a time, or whoever finds 64 there, walks
- *   (ferretgold_object_pin_at of the first slot), collects or closes does, if the client is in no
- *   call. Until then its entry stays held. A handle that was given back is refused by NO_HANDLE
+ *   (ferretgold_object_pin_at of the first slot), asks for a total, collects or closes does, if the
+ *   client is in no call. Until then its entry stays held. A handle that was given back is refused by NO_HANDLE
  *   only until its place is used again: from then on it is another handle.
  *
  * COSTS
@@ -281,9 +281,10 @@ ferretgold_status ferretgold_object_erase(ferretgold_object_cache *cache,
 
 /* ---- Totals ---------------------------------------------------------------------------------- */
 
-/* What ferretgold_usage, ferretgold_pinned_usage and ferretgold_occupancy say, in as many steps. An
- * entry whose handle waits on a queue is held; what stands alone and isn't in the usage is in none
- * of the three. They refuse NO_CLIENT. */
+/* What ferretgold_usage, ferretgold_pinned_usage and ferretgold_occupancy say, in as many steps,
+ * once what waits on queues is given back, as ferretgold_object_collect does it. An entry whose
+ * handle waits there still is held; what stands alone and isn't in the usage is in none of the
+ * three. They refuse NO_CLIENT. */
 ferretgold_status ferretgold_object_usage(ferretgold_object_cache *cache, uint64_t *usage);
 ferretgold_status ferretgold_object_pinned_usage(ferretgold_object_cache *cache, uint64_t *usage);
 ferretgold_status ferretgold_object_occupancy(ferretgold_object_cache *cache, uint64_t *occupancy);

@@ -622,12 +622,13 @@ ferretgold_status ferretgold_object_collect(ferretgold_object_cache *cache) {
 
 /* ---- Totals ---------------------------------------------------------------------------------- */
 
-/* Has a client tell one of its totals. */
+/* Has a client tell one of its totals, without what waits on queues. */
 static ferretgold_status told(ferretgold_object_cache *cache,
                               uint64_t (*total)(ferretgold_object *client), uint64_t *number) {
     if (cache == NULL || number == NULL) {
         return FERRETGOLD_NULL;
     }
+    relieve_all(cache);
     object_cell *it = enter(cache);
     if (it == NULL) {
         return FERRETGOLD_NO_CLIENT;

@@ -131,9 +131,24 @@ static void *hold_many(void *argument) {
     return NULL;
 }
 
+/* Begins a walk. */
+static ferretgold_status begin_walk(ferretgold_object_cache *cache) {
+    const ferretgold_object_handle *handle = NULL;
+    return ferretgold_object_pin_at(cache, 0, 0, &handle) == FERRETGOLD_MISS ? FERRETGOLD_OK
+                                                                              : FERRETGOLD_NULL;
+}
+
+/* Asks for the usage, which is nothing then. */
+static ferretgold_status tell_usage(ferretgold_object_cache *cache) {
+    uint64_t usage = 1;
+    const ferretgold_status status = ferretgold_object_usage(cache, &usage);
+    EXPECT(usage, 0);
+    return status;
+}
+
 /* What waits on the queue of a thread that sleeps, or has ended, is given back: once there are more
- * than a few, and where somebody collects, walks or closes. */
-static void sleeping(bool ends) {
+ * than a few, and where somebody collects, walks, asks for a total or closes. */
+static void sleeping(bool ends, ferretgold_status (*gives_back)(ferretgold_object_cache *cache)) {
     atomic_ulong deleted = 0;
     static other it;
     ferretgold_object_config config = small_cache();
@@ -158,8 +173,7 @@ static void sleeping(bool ends) {
     }
     EXPECT(ferretgold_object_pin_at(cache, 0, 1, &handle), FERRETGOLD_MISS);
     EXPECT(atomic_load(&deleted), FEW);
-    EXPECT(ends ? ferretgold_object_collect(cache)
-                : ferretgold_object_pin_at(cache, 0, 0, &handle) - FERRETGOLD_MISS, 0);
+    EXPECT(gives_back(cache), FERRETGOLD_OK);
     EXPECT(atomic_load(&deleted), MANY);
     EXPECT(ferretgold_object_close(cache), FERRETGOLD_OK);
     EXPECT(atomic_load(&deleted), MANY);
@@ -598,8 +612,9 @@ static void at_once(uint32_t clients, uint32_t handles, bool strict, unsigned lo
 
 void object_threads(unsigned long operations) {
     given_back_elsewhere();
-    sleeping(false);
-    sleeping(true);
+    sleeping(false, begin_walk);
+    sleeping(true, ferretgold_object_collect);
+    sleeping(false, tell_usage);
     ending();
     nowhere();
     coming_and_going();
