@@ -142,7 +142,7 @@ void *twin_client(std::uint32_t cache, std::uint32_t number, std::uint32_t handl
 bool twin_lookup(const void *cache, void *client, std::uint64_t w0, std::uint64_t w1,
                  ferretgold_handle *handle);
 bool twin_lookup_word(const void *cache, void *client, std::uint64_t w0, std::uint64_t w1,
-                      ferretgold_handle *handle, std::uint64_t *word);
+                      ferretgold_handle *handle, std::uint64_t *word, std::uint64_t *charge);
 std::uint64_t twin_read(const void *cache, const void *client, const ferretgold_handle *handle,
                         std::uint8_t *buffer, std::size_t length);
 bool twin_release(const void *cache, void *client, const ferretgold_handle *handle, bool useful);

@@ -161,8 +161,8 @@ class twin_objects : public twin {
         [[gnu::always_inline]] bool look(const ferretgold_key &key, std::uint8_t *buffer,
                                          std::uint32_t bytes) {
             ferretgold_handle held;
-            std::uint64_t address;
-            if (!twin_lookup_word(cache_, client_, key.w0, key.w1, &held, &address)) {
+            std::uint64_t address, charge;
+            if (!twin_lookup_word(cache_, client_, key.w0, key.w1, &held, &address, &charge)) {
                 return false;
             }
             std::memcpy(buffer, block_at(address), bytes);

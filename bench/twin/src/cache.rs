@@ -113,15 +113,16 @@ impl Cache {
 
     /// The same, and the first word of the value.
     #[inline(always)]
-    pub fn lookup_word(&self, client: &mut Client, key: Key) -> Option<(Handle, u64)> {
+    pub fn lookup_word(&self, client: &mut Client, key: Key) -> Option<(Handle, u64, u64)> {
         if client.free.is_empty() {
             return None;
         }
         let (key, shard) = self.placed(key);
         let pin = self.shard(shard).find(key, &mut client.stats)?;
         let word = self.shard(shard).first_word(pin.slot);
+        let charge = self.shard(shard).charge(pin.slot);
         client.stats.hits += 1;
-        Some((client.keep(Entry::Pinned { shard, pin })?, word))
+        Some((client.keep(Entry::Pinned { shard, pin })?, word, charge))
     }
 
     #[inline(always)]

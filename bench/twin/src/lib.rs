@@ -52,7 +52,7 @@ pub extern "C" fn twin_lookup(cache: &Cache, client: &mut Client, w0: u64, w1: u
     cache.lookup(client, Key { w0, w1 }).map(|it| *handle = it).is_some()
 }
 
-/// The same, and the first word of the value.
+/// The same, with the first word of the value and the charge.
 #[no_mangle]
 pub extern "C" fn twin_lookup_word(
     cache: &Cache,
@@ -61,8 +61,9 @@ pub extern "C" fn twin_lookup_word(
     w1: u64,
     handle: &mut Handle,
     word: &mut u64,
+    charge: &mut u64,
 ) -> bool {
-    cache.lookup_word(client, Key { w0, w1 }).map(|it| (*handle, *word) = it).is_some()
+    cache.lookup_word(client, Key { w0, w1 }).map(|it| (*handle, *word, *charge) = it).is_some()
 }
 
 /// # Safety

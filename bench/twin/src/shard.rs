@@ -301,6 +301,11 @@ impl Shard {
         self.at(slot, PAYLOAD).load(SeqCst)
     }
 
+    #[inline(always)]
+    pub fn charge(&self, slot: u32) -> u64 {
+        self.at(slot, CHARGE).load(SeqCst)
+    }
+
     /// Gives a reference back: the word that is left.
     #[inline(always)]
     pub fn give(&self, pin: Pin, useful: bool) -> u64 {
