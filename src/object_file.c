@@ -110,12 +110,13 @@ static bool write_object(object_sink *it, const ferretgold_object_handle *handle
 /* Holds the entry of a slot: MISS where there is none. */
 static ferretgold_status held_at(ferretgold_object_cache *cache, uint32_t shard, uint32_t slot,
                                  const ferretgold_object_handle **handle) {
-    ferretgold_status status = ferretgold_object_pin_at(cache, shard, slot, handle);
-    for (int tries = 1; status > FERRETGOLD_MISS && tries < TRIES; tries++) {
+    for (int tries = 1;; tries++) {
+        const ferretgold_status status = ferretgold_object_pin_at(cache, shard, slot, handle);
+        if (status <= FERRETGOLD_MISS || tries == TRIES) {
+            return status;
+        }
         (void)sched_yield();
-        status = ferretgold_object_pin_at(cache, shard, slot, handle);
     }
-    return status;
 }
 
 static ferretgold_file_status write_slot(ferretgold_object_cache *cache, uint32_t shard,

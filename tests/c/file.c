@@ -443,6 +443,9 @@ static void refused(image *file) {
     for (heap_once = 0; heap_once < 2; heap_once++) {
         without_memory(file, &config);
     }
+    config.seed = draws_left = 0;
+    EXPECT(load(file, &config, false, &cache, NULL), FERRETGOLD_FILE_REFUSED);
+    draws_left = -1;
     config.slots = 33;
     EXPECT(load(file, &config, false, &cache, NULL), FERRETGOLD_FILE_REFUSED);
     EXPECT(load(file, NULL, false, &cache, NULL), FERRETGOLD_FILE_NULL);

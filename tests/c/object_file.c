@@ -17,7 +17,7 @@
 
 enum {
     ENTRIES = 12, GONE = 3, NUMBER_KIND = 0xabcd, NUMBER_CHARGE = 0x12345678, MOST_FILE = 1 << 20,
-    BEGIN = 32, HEAD = 40, SUM = 8,
+    LONGEST = 300000, BEGIN = 32, HEAD = 40, SUM = 8,
     ENOUGH = 400, /* calls or requests */
     MOST_FAULTS = 20, THREADS = 4, OPERATIONS = 30000
 };
@@ -46,6 +46,7 @@ typedef struct image {
 
 static bool write_image(void *context, const void *bytes, size_t count) {
     image *to = context;
+    EXPECT(count > 0, true);
     if (to->calls_left-- == 0 || count > MOST_FILE - to->length) {
         return false;
     }
@@ -69,18 +70,18 @@ static size_t read_image(void *context, void *bytes, size_t count, bool *could) 
 
 /* ---- Entries --------------------------------------------------------------------------------- */
 
-/* Entry `number`, of which all is known by its key. Two are longer than what is copied at once, and one
- * is longer than the first room for what is read. */
+/* Entry `number`, of which all is known by its key. Two are longer than what is copied at once, and for
+ * one the room for what is read grows three times. */
 static ferretgold_key key_of(uint64_t number) {
     return (ferretgold_key){number, number * number};
 }
 
 static size_t length_of(uint64_t number) {
-    return number == 5 ? 70000 : number == 6 ? 4096 : number == 7 ? 4097 : (size_t)number * 3;
+    return number == 5 ? LONGEST : number == 6 ? 4096 : number == 7 ? 4097 : (size_t)number * 3;
 }
 
 static uint8_t byte_of(uint64_t number, size_t at) {
-    return (uint8_t)(number * 41 + at * at);
+    return (uint8_t)(number * 41 + at * at + at / 251);
 }
 
 static bool are_bytes_of(uint64_t number, const uint8_t *bytes, size_t length) {
@@ -120,7 +121,7 @@ static ferretgold_object_cache *opened(const ferretgold_object_config *config) {
 }
 
 static void insert(ferretgold_object_cache *cache, uint64_t number) {
-    static uint8_t bytes[70000];
+    static uint8_t bytes[LONGEST];
     const ferretgold_key key = key_of(number);
     for (size_t at = 0; at < length_of(number); at++) {
         bytes[at] = byte_of(number, at);
@@ -231,7 +232,7 @@ static void into_others(image *file) {
 /* No changed bit is taken, and no shorter or longer file. What stands before is loaded. */
 static void damaged(image *file) {
     const ferretgold_object_config config = config_of(2, 32, 1000);
-    const size_t length = file->length, step = 1021;
+    const size_t length = file->length, step = 4099;
     ferretgold_object_cache *cache = opened(&config);
     ferretgold_loaded loaded;
     for (size_t at = 0; at < 8 * length; at += at < 8 * 400 || at > 8 * (length - 100) ? 1 : step) {
@@ -346,6 +347,7 @@ static void failing(image *file) {
         EXPECT(saved < ENTRIES, true);
         calls++;
     }
+    EXPECT(save(&other, calls, &saved), FERRETGOLD_FILE_OK);
     EXPECT(calls > 3 * ENTRIES && saved == ENTRIES - 1, true);
     for (calls = 0; calls < ENOUGH; calls++) {
         ferretgold_object_cache *cache = opened(&config);
@@ -425,24 +427,39 @@ static void of_a_kind(image *file) {
     closed(cache);
 }
 
-/* With all handles out there is nothing to walk with. */
+/* How often a save lets others go first, and the handle that is given back at the third time. */
+static int yields = 0;
+static ferretgold_object_cache *yielding = NULL;
+static const ferretgold_object_handle *given_back = NULL;
+
+int sched_yield(void) {
+    if (++yields == 3 && given_back != NULL) {
+        EXPECT(ferretgold_object_release(yielding, given_back, true, false, NULL), FERRETGOLD_OK);
+    }
+    return 0;
+}
+
+/* With all handles out there is nothing to walk with, until one is given back. */
 static void busy(image *file) {
     ferretgold_object_config config = config_of(1, 8, 100);
     const ferretgold_object_handle *handle = NULL;
     const ferretgold_key key = key_of(1);
     uint64_t saved = 77;
     config.clients = config.handles = 1;
-    ferretgold_object_cache *cache = opened(&config);
-    insert(cache, 1);
-    EXPECT(ferretgold_object_lookup(cache, &key, &handle), FERRETGOLD_OK);
+    yielding = opened(&config);
+    insert(yielding, 1);
+    EXPECT(ferretgold_object_lookup(yielding, &key, &handle), FERRETGOLD_OK);
     file->length = 0;
-    EXPECT(ferretgold_object_save(cache, NULL, NULL, NULL, write_image, file, &saved), FERRETGOLD_FILE_BUSY);
-    EXPECT(saved, 0);
-    EXPECT(ferretgold_object_release(cache, handle, true, false, NULL), FERRETGOLD_OK);
+    EXPECT(ferretgold_object_save(yielding, NULL, NULL, NULL, write_image, file, &saved),
+           FERRETGOLD_FILE_BUSY);
+    EXPECT(saved == 0 && yields == 63, true);
+    yields = 0;
+    given_back = handle;
     file->length = 0;
-    EXPECT(ferretgold_object_save(cache, NULL, NULL, NULL, write_image, file, NULL), FERRETGOLD_FILE_OK);
-    EXPECT(file->length, BEGIN + HEAD + length_of(1) + SUM + HEAD);
-    closed(cache);
+    EXPECT(ferretgold_object_save(yielding, NULL, NULL, NULL, write_image, file, NULL),
+           FERRETGOLD_FILE_OK);
+    EXPECT(file->length == BEGIN + HEAD + length_of(1) + SUM + HEAD && yields == 3, true);
+    closed(yielding);
 }
 
 /* A file of each version is one that the other's loader doesn't know. */
