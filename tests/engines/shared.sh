@@ -52,10 +52,10 @@ passes() {
         objects+=("$folder/objects/${it##*/}.o")
         [[ -f ${objects[-1]} ]] || c++ "${words[@]}" -c "$source/$it.cc" -o "${objects[-1]}" || return
     done
-    c++ "${objects[@]}" "${libraries[@]}" -o "$folder/$name" && mkdir "$folder/files" || return
+    c++ "${objects[@]}" "${libraries[@]}" -o "$folder/$name" || return
+    rm -rf "$folder/files" && mkdir "$folder/files" || return
     TEST_TMPDIR=$folder/files "$folder/$name" > "$folder/$name.out" 2>&1 \
         && grep -qxF "[  PASSED  ] $2 test$plural." "$folder/$name.out" \
         && grep -qx 'caches: [1-9][0-9]*' "$folder/$name.out" \
-        || { grep -v '\[ RUN  \|\[       OK' "$folder/$name.out"; return 1; }
-    rm -rf "$folder/files"
+        || { grep -v '\[ RUN  \|\[       OK' "$folder/$name.out" | tail -n 50; return 1; }
 }
