@@ -59,7 +59,8 @@ typedef enum ferretgold_file_status {
     FERRETGOLD_FILE_KIND = 4,    /* it is no such file */
     FERRETGOLD_FILE_VERSION = 5, /* it has a version that this library doesn't know */
     FERRETGOLD_FILE_DAMAGED = 6, /* it is cut off, too long, or changed */
-    FERRETGOLD_FILE_REFUSED = 7, /* the configuration was refused, as by ferretgold_open */
+    FERRETGOLD_FILE_REFUSED = 7, /* the configuration was refused, as by ferretgold_open, or no seed
+                                    could be drawn for it */
     FERRETGOLD_FILE_MEMORY = 8,  /* memory was refused */
     FERRETGOLD_FILE_BUSY = 9,    /* no client or no handle was to be had to walk over the cache */
 } ferretgold_file_status;

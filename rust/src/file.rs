@@ -24,7 +24,7 @@ pub enum FileError {
     Version,
     /// The file is cut off, too long, or changed.
     Damaged,
-    /// The configuration was refused.
+    /// The configuration was refused, or no seed could be drawn for it.
     Refused(Refused),
     /// Memory was refused.
     Memory,
@@ -112,7 +112,7 @@ fn load<R: Read + ?Sized>(
     match NonNull::new(at) {
         Some(at) => Ok((Cache { at }, loaded, status == OK)),
         None => {
-            let refused = config.check().err().unwrap_or(Refused::NULL);
+            let refused = config.check().err().unwrap_or(Refused::NO_SEED);
             Err(error_of(status, failed, refused))
         }
     }
