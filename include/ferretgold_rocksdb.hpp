@@ -44,7 +44,7 @@
 //   GetPinnedUsage also count what was erased and is held, and what goes with its handle; where
 //   metadata is charged, GetPinnedUsage a slot for as many entries of the estimated charge, too.
 //   GetUsage and GetOccupancyCount load a word of each shard, GetPinnedUsage one of each slot, which
-//   takes milliseconds in a large cache.
+//   takes milliseconds in a large cache; and each two of every client.
 //
 // CAPACITY
 //   SetCapacity lowers it by entries of no use, which stand for what isn't to be used, and erases

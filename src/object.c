@@ -540,8 +540,8 @@ static inline const ferretgold_object_handle *shown_of(object_cell *cell, const 
 }
 
 QUICKLY ferretgold_status insert(ferretgold_object_cache *cache, insertion *it, way way,
-                                       ferretgold_inserted *inserted,
-                                       const ferretgold_object_handle **handle, const char *call) {
+                                 ferretgold_inserted *inserted,
+                                 const ferretgold_object_handle **handle, const char *call) {
     const void *object = (const void *)(uintptr_t)it->value.address;
     (void)call, (void)object;
     object_cell *cell = enter(cache);
