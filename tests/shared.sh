@@ -48,8 +48,9 @@ sanitizes() {
 # Tries a test of objects so that ThreadSanitizer sees each step: an unproved store stands before the
 # library. sees_steps_of TEST OPERATIONS, where TEST takes these and what it is linked with
 sees_steps_of() {
-    make -s -C src OUT="$folder/threads" SANITIZE=thread "$folder/threads/libferretgold.a" \
-        && c++ -std=c++17 -O1 -g -Wall -Wextra -Wpedantic -Werror -fsanitize=thread -Iinclude \
+    make -s -C src OUT="$folder/threads" SANITIZE=thread "$folder/threads/libferretgold.a" || return
+    [[ -f $folder/store.o ]] \
+        || c++ -std=c++17 -O1 -g -Wall -Wextra -Wpedantic -Werror -fsanitize=thread -Iinclude \
             -c tests/c/object_store.cpp -o "$folder/store.o" || return
     "$1" "$2" -O1 -fsanitize=thread "$folder/store.o" "$folder/threads/libferretgold.a" -Wl,-z,muldefs
 }

@@ -2,67 +2,18 @@
  * right and which no save writes, requests for memory and calls of the caller's that fail, and mutated
  * files.
  * Usage: file rows | file fuzz COUNT SEED | file save PATH | file load PATH */
-#include "expect.h"
+enum { MOST_FILE = 1 << 14 };
+
 #include "ferretgold_file.h"
+#include "file_image.h"
 #include "heap.h"
 
 #define XXH_INLINE_ALL
 #include <xxhash.h>
 
 #include <inttypes.h>
-#include <stdlib.h>
-#include <string.h>
 
-enum {
-    ENTRIES = 20, LONGEST = 48, MOST_VALUE = 4096, MOST_FILE = 1 << 14, BEGIN = 32, HEAD = 40,
-    ENOUGH = 100, /* calls or requests */
-    MOST_FAULTS = 20
-};
-
-int faults = 0;
-const char *where = "";
-
-void expect(const char *file, int line, const char *what, long long is, long long wanted) {
-    if (is != wanted) {
-        printf("%s:%d: %s%s is %lld, not %lld\n", file, line, where, what, is, wanted);
-        faults++;
-    }
-    if (faults == MOST_FAULTS) {
-        exit(1);
-    }
-}
-
-/* ---- Files in memory ------------------------------------------------------------------------- */
-
-typedef struct image {
-    uint8_t bytes[MOST_FILE];
-    size_t length;
-    size_t at;
-    size_t calls_left; /* how many calls are met before one fails */
-} image;
-
-static bool write_image(void *context, const void *bytes, size_t count) {
-    image *to = context;
-    if (to->calls_left-- == 0 || count > MOST_FILE - to->length) {
-        return false;
-    }
-    memcpy(to->bytes + to->length, bytes, count);
-    to->length += count;
-    return true;
-}
-
-static size_t read_image(void *context, void *bytes, size_t count, bool *could) {
-    image *from = context;
-    const size_t rest = from->length - from->at;
-    const size_t read = count < rest ? count : rest;
-    if (from->calls_left-- == 0) {
-        *could = false;
-        return 0;
-    }
-    memcpy(bytes, from->bytes + from->at, read);
-    from->at += read;
-    return read;
-}
+enum { ENTRIES = 20, LONGEST = 48, MOST_VALUE = 4096, ENOUGH = 100 /* calls or requests */ };
 
 /* ---- Entries --------------------------------------------------------------------------------- */
 
@@ -259,20 +210,6 @@ static void damaged(image *file) {
         }
     }
     file->length = length;
-}
-
-static uint64_t number_at(const uint8_t *bytes, size_t count) {
-    uint64_t number = 0;
-    for (size_t at = 0; at < count; at++) {
-        number += (uint64_t)bytes[at] << 8 * at;
-    }
-    return number;
-}
-
-static void set_number(uint8_t *bytes, size_t count, uint64_t number) {
-    for (size_t at = 0; at < count; at++) {
-        bytes[at] = (uint8_t)(number >> 8 * at);
-    }
 }
 
 /* The file's fields, also those that are 0. */

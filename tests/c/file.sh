@@ -25,20 +25,14 @@ builds() {
         "$folder"/lib/libferretgold{_file,}.a -o "$folder/$1"
 }
 
-# The script reads what the library wrote, and the library loads what the script wrote.
+# The script reads what the library wrote, so many entries, and the library loads what the script wrote,
+# but of no later version: is_as_described PROGRAM ENTRIES VERSION
 is_as_described() {
-    "${program[@]}" save "$folder/saved" && tests/c/file_format.py read "$folder/saved" > "$folder/read" || return
-    [[ $(wc -l < "$folder/read") == 19 ]] && tests/c/file_format.py write "$folder/written" < "$folder/read" || return
-    cmp "$folder/saved" "$folder/written" && "${program[@]}" load "$folder/written" | sort > "$folder/loaded" || return
+    "$1" save "$folder/saved" && tests/c/file_format.py read "$folder/saved" > "$folder/read" || return
+    [[ $(wc -l < "$folder/read") == "$2" ]] && tests/c/file_format.py write "$folder/written" "$3" < "$folder/read" || return
+    cmp "$folder/saved" "$folder/written" && "$1" load "$folder/written" | sort > "$folder/loaded" || return
     sort "$folder/read" | cmp - "$folder/loaded" || return
-    tests/c/file_format.py write "$folder/newer" 3 < "$folder/read" && [[ $("${program[@]}" load "$folder/newer") == "refused: 5" ]]
-}
-
-# So it is with objects.
-is_as_described_of_objects() {
-    "$folder/objects" save "$folder/saved" && tests/c/file_format.py read "$folder/saved" > "$folder/read" || return
-    [[ $(wc -l < "$folder/read") == 11 ]] && tests/c/file_format.py write "$folder/written" 2 < "$folder/read" || return
-    cmp "$folder/saved" "$folder/written" && "$folder/objects" load "$folder/written" | cmp - "$folder/read"
+    tests/c/file_format.py write "$folder/newer" 3 < "$folder/read" && [[ $("$1" load "$folder/newer") == "refused: 5" ]]
 }
 
 in_cpp() {
@@ -67,8 +61,8 @@ tries_all() {
     tries "rows, $1" "${program[@]}" rows
     tries "rows of objects, $1" "$folder/objects" rows
     tries "mutated files, $1" "${program[@]}" fuzz "$files" 1
-    tries "the format, $1" is_as_described
-    tries "the format of objects, $1" is_as_described_of_objects
+    tries "the format, $1" is_as_described "${program[@]}" 19 1
+    tries "the format of objects, $1" is_as_described "$folder/objects" 11 2
     tries "C++, $1" in_cpp
     tries "C++ without exceptions, $1" in_cpp -fno-exceptions -fno-rtti
     [[ $1 ]] || tries "Rust" in_rust

@@ -2,8 +2,10 @@
  * length, files whose checksums are right and which no save writes, calls of the caller's and requests
  * for memory that fail, and threads that insert and erase meanwhile. Linked with heap.c.
  * Usage: object_file rows | object_file save PATH | object_file load PATH */
-#include "expect.h"
+enum { MOST_FILE = 1 << 20 };
+
 #include "ferretgold_file.h"
+#include "file_image.h"
 #include "heap.h"
 
 #define XXH_INLINE_ALL
@@ -12,61 +14,12 @@
 #include <inttypes.h>
 #include <pthread.h>
 #include <stdatomic.h>
-#include <stdlib.h>
-#include <string.h>
 
 enum {
-    ENTRIES = 12, GONE = 3, NUMBER_KIND = 0xabcd, NUMBER_CHARGE = 0x12345678, MOST_FILE = 1 << 20,
-    LONGEST = 300000, BEGIN = 32, HEAD = 40, SUM = 8,
+    ENTRIES = 12, GONE = 3, NUMBER_KIND = 0xabcd, NUMBER_CHARGE = 0x12345678, LONGEST = 300000, SUM = 8,
     ENOUGH = 400, /* calls or requests */
-    MOST_FAULTS = 20, THREADS = 4, OPERATIONS = 30000
+    THREADS = 4, OPERATIONS = 30000
 };
-
-int faults = 0;
-const char *where = "";
-
-void expect(const char *file, int line, const char *what, long long is, long long wanted) {
-    if (is != wanted) {
-        printf("%s:%d: %s%s is %lld, not %lld\n", file, line, where, what, is, wanted);
-        faults++;
-    }
-    if (faults == MOST_FAULTS) {
-        exit(1);
-    }
-}
-
-/* ---- Files in memory ------------------------------------------------------------------------- */
-
-typedef struct image {
-    uint8_t bytes[MOST_FILE];
-    size_t length;
-    size_t at;
-    size_t calls_left; /* how many calls are met before one fails */
-} image;
-
-static bool write_image(void *context, const void *bytes, size_t count) {
-    image *to = context;
-    EXPECT(count > 0, true);
-    if (to->calls_left-- == 0 || count > MOST_FILE - to->length) {
-        return false;
-    }
-    memcpy(to->bytes + to->length, bytes, count);
-    to->length += count;
-    return true;
-}
-
-static size_t read_image(void *context, void *bytes, size_t count, bool *could) {
-    image *from = context;
-    const size_t rest = from->length - from->at;
-    const size_t read = count < rest ? count : rest;
-    if (from->calls_left-- == 0) {
-        *could = false;
-        return 0;
-    }
-    memcpy(bytes, from->bytes + from->at, read);
-    from->at += read;
-    return read;
-}
 
 /* ---- Entries --------------------------------------------------------------------------------- */
 
@@ -249,20 +202,6 @@ static void damaged(image *file) {
     }
     file->length = length;
     closed(cache);
-}
-
-static uint64_t number_at(const uint8_t *bytes, size_t count) {
-    uint64_t number = 0;
-    for (size_t at = 0; at < count; at++) {
-        number += (uint64_t)bytes[at] << 8 * at;
-    }
-    return number;
-}
-
-static void set_number(uint8_t *bytes, size_t count, uint64_t number) {
-    for (size_t at = 0; at < count; at++) {
-        bytes[at] = (uint8_t)(number >> 8 * at);
-    }
 }
 
 /* The file's fields, also those that are 0. Gives where the end stands. */

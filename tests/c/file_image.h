@@ -1,0 +1,73 @@
+/* What the tests of files share: files in memory, numbers in them, and the count of faults. Who includes it
+ * says before how many bytes such a file may have: MOST_FILE. */
+#ifndef FILE_IMAGE_H
+#define FILE_IMAGE_H
+
+#include "expect.h"
+
+#include <stdlib.h>
+#include <string.h>
+
+enum { BEGIN = 32, HEAD = 40, MOST_FAULTS = 20 };
+
+int faults = 0;
+const char *where = "";
+
+void expect(const char *file, int line, const char *what, long long is, long long wanted) {
+    if (is != wanted) {
+        printf("%s:%d: %s%s is %lld, not %lld\n", file, line, where, what, is, wanted);
+        faults++;
+    }
+    if (faults == MOST_FAULTS) {
+        exit(1);
+    }
+}
+
+typedef struct image {
+    uint8_t bytes[MOST_FILE];
+    size_t length;
+    size_t at;
+    size_t calls_left; /* how many calls are met before one fails */
+} image;
+
+static bool write_image(void *context, const void *bytes, size_t count) {
+    image *to = context;
+    EXPECT(count > 0, true);
+    if (to->calls_left-- == 0 || count > MOST_FILE - to->length) {
+        return false;
+    }
+    memcpy(to->bytes + to->length, bytes, count);
+    to->length += count;
+    return true;
+}
+
+static size_t read_image(void *context, void *bytes, size_t count, bool *could) {
+    image *from = context;
+    const size_t rest = from->length - from->at;
+    const size_t read = count < rest ? count : rest;
+    if (from->calls_left-- == 0) {
+        *could = false;
+        return 0;
+    }
+    memcpy(bytes, from->bytes + from->at, read);
+    from->at += read;
+    return read;
+}
+
+/* ---- Numbers, the lowest byte first ---------------------------------------------------------- */
+
+static uint64_t number_at(const uint8_t *bytes, size_t count) {
+    uint64_t number = 0;
+    for (size_t at = 0; at < count; at++) {
+        number += (uint64_t)bytes[at] << 8 * at;
+    }
+    return number;
+}
+
+static void set_number(uint8_t *bytes, size_t count, uint64_t number) {
+    for (size_t at = 0; at < count; at++) {
+        bytes[at] = (uint8_t)(number >> 8 * at);
+    }
+}
+
+#endif
