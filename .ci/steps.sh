@@ -36,7 +36,8 @@ told() {
 }
 
 # How many checks go side by side: one a processor, with 4 GB for each, which the largest takes. By
-# its own reckoning rt ci wants twice that, and lets processors wait for it.
+# its own reckoning rt ci wants twice that, and lets processors wait for it. Named so, each has one
+# job: the crates that stand on one another are what a run waits for.
 lanes() {
     local processors memory
     processors=$(nproc)
@@ -44,7 +45,7 @@ lanes() {
     echo $((processors < memory ? processors : memory > 1 ? memory : 1))
 }
 
-# Edits are tried beside rt ci and give way to it: each in half of the lanes and one more.
+# Edits are tried beside rt ci, which has all lanes, and give way to it: in half of them and one more.
 jobs=$(($(lanes) / 2 + 1))
 
 # On a small machine the edits have 165 minutes, and those that began ten minutes before end in time.
@@ -99,7 +100,7 @@ gate() {
     watch=$!
     # A kit whose rt ci keeps nothing has no such word.
     rt help 2>&1 | grep -q -e --anew || anew=
-    RT_JOBS=${RT_JOBS:-$jobs} rt ci $anew 2>&1 | tee "$folder/log"
+    RT_JOBS=${RT_JOBS:-$(lanes)} rt ci $anew 2>&1 | tee "$folder/log"
     local ended=${PIPESTATUS[0]}
     echo "rt ci ended" >> "$folder/log"
     return "$ended"

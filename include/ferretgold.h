@@ -167,7 +167,10 @@ typedef enum ferretgold_status {
     /* The configuration has a size that this library doesn't know. */
     FERRETGOLD_BAD_SIZE = 40,
     /* The system has no number to draw for a seed yet, as early at its start. */
-    FERRETGOLD_NO_SEED = 45
+    FERRETGOLD_NO_SEED = 45,
+    /* All clients are back, and the proved library can't tell that nobody else has the cache: of
+     * proved calls only, and not known to come. */
+    FERRETGOLD_SHARED = 46
 } ferretgold_status;
 
 /* How many visits of the clock a new entry that nobody looks up survives: 3, 2 or 1. */
@@ -181,10 +184,13 @@ typedef enum ferretgold_priority {
 typedef enum ferretgold_inserted {
     /* The entry is in the table. */
     FERRETGOLD_PLACED = 0,
-    /* As if the entry had been placed and evicted at once. Of ferretgold_insert only. */
+    /* There was no place for it: as if the entry had been placed and evicted at once. Of insertions
+     * without a handle only. */
     FERRETGOLD_DROPPED = 1,
-    /* The entry is in no table, and goes with its last handle. Of ferretgold_insert_pinned only. */
-    FERRETGOLD_STANDALONE = 2
+    /* The entry is in no table, and goes with its last handle. Of those with one only. */
+    FERRETGOLD_STANDALONE = 2,
+    /* An entry of the key was met, which is used and keeps its value. Of ferretgold_insert only. */
+    FERRETGOLD_THERE = 3
 } ferretgold_inserted;
 
 /* The most serials of a client: 2^54. */
@@ -245,14 +251,23 @@ typedef struct ferretgold_stats {
     uint64_t lost;        /* compare-exchanges that lost to another thread's step */
 } ferretgold_stats;
 
-/* Outcomes of look-ups and insertions. */
+/* What calls came to. Each insertion that isn't refused for its arguments or for lack of memory is one of
+ * placed, there, dropped, standalone and refused, and one of by_turns. */
 typedef struct ferretgold_counts {
-    uint64_t hits;       /* ferretgold_lookup and ferretgold_get that returned OK */
-    uint64_t misses;     /* and MISS */
-    uint64_t placed;     /* ferretgold_insert and ferretgold_insert_pinned, by what came of them */
-    uint64_t dropped;
-    uint64_t standalone;
-    uint64_t refused;    /* those by HANDLES_FULL, SPENT, TOO_LARGE, CAPACITY_FULL, OCCUPANCY_FULL */
+    uint64_t hits;         /* ferretgold_lookup and ferretgold_get that returned OK */
+    uint64_t misses;       /* and all others: MISS, TOO_SHORT, HANDLES_FULL, SPENT */
+    uint64_t placed;       /* insertions that were placed */
+    uint64_t there;        /* that met an entry of their key: THERE, or STANDALONE */
+    uint64_t dropped;      /* that found no place, or no empty slot, and were dropped */
+    uint64_t standalone;   /* and that stand alone for that */
+    uint64_t refused;      /* by HANDLES_FULL, SPENT, TOO_LARGE, CAPACITY_FULL, OCCUPANCY_FULL */
+    uint64_t evicted;      /* these five as in ferretgold_stats */
+    uint64_t evicted_hit;
+    uint64_t freed;
+    uint64_t turns;
+    uint64_t lost;
+    uint64_t by_turns[16]; /* insertions by how many turns each took: [0] none, [k] at most 2^(k - 1)
+                              and more than those before, [15] more */
 } ferretgold_counts;
 
 /* What was left of a cache that was closed: the charges of its entries in sum and their number, by
@@ -272,8 +287,8 @@ typedef struct ferretgold_client ferretgold_client;
 
 /*
  * How many bytes a cache of this configuration allocates:
- *     shards * (272 + slots * 8 * (7 + room)) + clients * (728 + 72 * shards + 104 * handles)
- *     + 64 * (clients / 64, rounded up) + 560
+ *     shards * (272 + slots * 8 * (7 + room)) + clients * (856 + 72 * shards + 104 * handles)
+ *     + 64 * (clients / 64, rounded up) + 496
  * A shard's table, slots * 8 * (7 + room) + 96 of these, is rounded up to whole pages of 2 MiB from
  * 4 MiB on: it begins at one, and lies on such pages where the system gives them. ferretgold_open
  * needs one shard's table more for a while. 0 where ferretgold_config_check refuses.
@@ -401,13 +416,21 @@ ferretgold_status ferretgold_config_of(const ferretgold_cache *cache, ferretgold
 size_t ferretgold_value_limit(const ferretgold_cache *cache);
 
 /*
- * Outcomes of the calls of all clients, in sum: of each client until it was last given back, so not
- * what one that is out did since. No count falls. It is no picture of one moment.
+ * What the calls of all clients came to, in sum, and of the client of this number, whoever has it. Any
+ * thread may ask at any time, also while clients are at work. Each number is that of calls that had
+ * returned at some moment of the reading, and none falls; it is exact where no call is under way. Only
+ * what other calls than insertions and erasures lost counts from when their client makes one of these,
+ * asks for its statistics, or is given back. It is no picture of one moment.
  *
- * Costs six loads for each client.
+ * Costs 28 loads for each client. For it each insertion, each erasure and giving a client back adds up
+ * what the client did at all shards, which takes some 20 instructions for each.
+ *
+ * ferretgold_client_counts refuses OUT_OF_RANGE: no client of the cache has this number.
  */
 ferretgold_status ferretgold_cache_counts(const ferretgold_cache *cache,
                                           ferretgold_counts *counts);
+ferretgold_status ferretgold_client_counts(const ferretgold_cache *cache, uint32_t number,
+                                           ferretgold_counts *counts);
 
 /* ---- Getting and giving back handles --------------------------------------------------------- */
 
@@ -459,29 +482,27 @@ FERRETGOLD_INLINE ferretgold_status ferretgold_release(ferretgold_client *client
  * are reserved in the key's shard first, which may evict others. `value` may be null if `length` is
  * 0, and `inserted` may be null.
  *
- * PLACED: the entry is in the table. DROPPED: the shard was full and no place was found, or an
- * entry of the key was met first (it is used then, and its value stays), or none of L probes found
- * an empty slot. Uses a serial, also if CAPACITY_FULL or OCCUPANCY_FULL refuses it.
+ * PLACED: the entry is in the table. THERE: an entry of the key was met first; it is used then, and
+ * its value stays. DROPPED: the shard was full and no place was found, or none of L probes found an
+ * empty slot. Uses a serial, also if CAPACITY_FULL or OCCUPANCY_FULL refuses it.
  *
  * Costs the reservation, for each probe what a look-up costs, and a store for each word of the
  * entry. Bound: (4*L + 25)*(3*L/4 + 1) + 8*L + W + 8.
  *
  * Refuses BAD_PRIORITY, NO_CHARGE, TOO_LONG, SPENT, TOO_LARGE; and if strict, after evictions
- * that stay made, CAPACITY_FULL, OCCUPANCY_FULL. These two, and DROPPED for lack of a place, may
- * come though nobody holds an entry; then a second try evicts more ("Try again" in the guide).
+ * that stay made, CAPACITY_FULL, OCCUPANCY_FULL. These two, and DROPPED, may come though nobody
+ * holds an entry; then a second try evicts more ("Try again" in the guide).
  */
-FERRETGOLD_INLINE ferretgold_status ferretgold_insert(ferretgold_client *client,
-                                                      const ferretgold_key *key, const void *value,
-                                                      size_t length, uint32_t charge,
-                                                      ferretgold_priority priority,
-                                                      ferretgold_inserted *inserted);
+ferretgold_status ferretgold_insert(ferretgold_client *client, const ferretgold_key *key,
+                                    const void *value, size_t length, uint32_t charge,
+                                    ferretgold_priority priority, ferretgold_inserted *inserted);
 
 /*
  * Inserts an entry of this key, value and charge, and gives a handle on it. PLACED: it is in the
- * table. STANDALONE: it isn't, for one of the reasons that ferretgold_insert drops one for;
- * look-ups don't find it, its charge is in the usage, and it goes with its last handle. `value` may
- * be null if `length` is 0, and `inserted` may be null. Uses one serial, also if CAPACITY_FULL or
- * OCCUPANCY_FULL refuses it.
+ * table. STANDALONE: it isn't, where ferretgold_insert answers THERE or DROPPED; look-ups don't find
+ * it, its charge is in the usage, and it goes with its last handle. `value` may be null if `length`
+ * is 0, and `inserted` may be null. Uses one serial, also if CAPACITY_FULL or OCCUPANCY_FULL refuses
+ * it.
  *
  * Allocates a copy of the value by malloc, if it has bytes, and frees it unless the entry is
  * standalone, which keeps it. Costs what ferretgold_insert costs, the copy, and if no place was
@@ -490,13 +511,11 @@ FERRETGOLD_INLINE ferretgold_status ferretgold_insert(ferretgold_client *client,
  * Refuses BAD_PRIORITY, NO_CHARGE, TOO_LONG, OUT_OF_MEMORY, HANDLES_FULL, SPENT, TOO_LARGE; and if
  * strict, after evictions that stay made, CAPACITY_FULL, OCCUPANCY_FULL.
  */
-FERRETGOLD_INLINE ferretgold_status ferretgold_insert_pinned(ferretgold_client *client,
-                                                             const ferretgold_key *key,
-                                                             const void *value, size_t length,
-                                                             uint32_t charge,
-                                                             ferretgold_priority priority,
-                                                             ferretgold_inserted *inserted,
-                                                             ferretgold_handle *handle);
+ferretgold_status ferretgold_insert_pinned(ferretgold_client *client, const ferretgold_key *key,
+                                           const void *value, size_t length, uint32_t charge,
+                                           ferretgold_priority priority,
+                                           ferretgold_inserted *inserted,
+                                           ferretgold_handle *handle);
 
 /*
  * Hides each visible entry of the key: no look-up finds them from then on. Makes one try to free
@@ -636,7 +655,7 @@ FERRETGOLD_SIZE_IS(ferretgold_config, 48);
 FERRETGOLD_SIZE_IS(ferretgold_key, 16);
 FERRETGOLD_SIZE_IS(ferretgold_handle, 24);
 FERRETGOLD_SIZE_IS(ferretgold_stats, 64);
-FERRETGOLD_SIZE_IS(ferretgold_counts, 48);
+FERRETGOLD_SIZE_IS(ferretgold_counts, 224);
 FERRETGOLD_SIZE_IS(ferretgold_totals, 32);
 FERRETGOLD_SIZE_IS(ferretgold_fit, 40);
 #undef FERRETGOLD_SIZE_IS

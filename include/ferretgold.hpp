@@ -504,10 +504,15 @@ class cache {
     // The most bytes of a value.
     std::size_t value_limit() const noexcept { return ferretgold_value_limit(get()); }
 
-    // Outcomes of the calls of all clients, of each until it was last given back.
+    // What the calls of all clients came to, while they work, too; and of the client of this number.
     ferretgold_counts counts() const noexcept {
         ferretgold_counts counts{};
         (void)ferretgold_cache_counts(get(), &counts);
+        return counts;
+    }
+    ferretgold_counts counts(std::uint32_t number, ferretgold_status &why) const noexcept {
+        ferretgold_counts counts{};
+        why = ferretgold_client_counts(get(), number, &counts);
         return counts;
     }
 
@@ -536,6 +541,9 @@ class cache {
         : shared_(must([&](auto &why) { return shared_cache::open(config, why); })) {}
     client open_client() const {
         return must([&](auto &why) { return open_client(why); });
+    }
+    ferretgold_counts counts(std::uint32_t number) const {
+        return must([&](auto &why) { return counts(number, why); });
     }
     ferretgold_totals close() {
         return must([&](auto &why) { return close(why); });

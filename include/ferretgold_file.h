@@ -76,7 +76,7 @@ typedef size_t ferretgold_read(void *context, void *bytes, size_t count, bool *c
 typedef struct ferretgold_loaded {
     uint64_t entries; /* that the file has, up to its damage */
     uint64_t left;    /* that are in the cache */
-    uint64_t lost;    /* the others: their shard had no room, or a slot has none for the value */
+    uint64_t lost;    /* the others: there was no room, or a later entry of the key */
 } ferretgold_loaded;
 
 /* ---- Caches of bytes ------------------------------------------------------------------------- */
@@ -89,14 +89,24 @@ ferretgold_file_status ferretgold_save(ferretgold_closed *closed, ferretgold_wri
                                        void *context);
 
 /*
- * Opens a cache that begins with what a file has, as ferretgold_reopen does: each entry once, with its
- * key, its value, its charge and its uses. A cache of the same configuration has them all. Where they
- * are too many the first come in, and none is evicted. `loaded` may be null.
+ * Opens a cache that begins with what a file has, each entry with its key, its value, its charge and its
+ * uses, of which there are 553,651,204 at most. A cache of the same configuration has them all. Each
+ * shard has 84 places for each hundred slots. Where more entries belong there, those come in that have
+ * most uses, and of equal ones the earlier. Under strict capacity they come in in this order, and one
+ * for whose charge there is no room then is passed over; its place stays empty. An entry whose value is
+ * longer than a slot has room for, or whose charge is above a strict shard's part, has no place.
+ *
+ * Of one key the last entry comes in, if any does: an earlier one goes once a later one is read. What had
+ * no place beside the earlier one stays out then. `loaded` may be null.
  *
  * A file that is damaged is refused, and `cache` and `loaded` stay; with `keep_front` what stands
  * before the damage is loaded, nothing perhaps, and DAMAGED is returned with the cache.
  *
- * Allocates an image of all entries, and what ferretgold_reopen does; costs and uses serials as that.
+ * Calls `read` from the front of the file to its end, and for no byte twice. Whatever the file says,
+ * what is allocated at once, the cache among it, is at most twice ferretgold_memory(config) and 64 KiB;
+ * with one shard, which opening takes twice beside its values, three times that memory. Uses serials and
+ * costs as ferretgold_reopen does, and for each entry of the file a checksum, a search for its key, and,
+ * where it has a place for a time, at most as many exchanges of places as those of a shard can be halved.
  */
 ferretgold_file_status ferretgold_load(const ferretgold_config *config, ferretgold_read *read,
                                        void *context, bool keep_front, ferretgold_cache **cache,
@@ -150,6 +160,32 @@ ferretgold_file_status ferretgold_object_save(ferretgold_object_cache *cache,
  * as much as the file has, or 64 KiB.
  */
 ferretgold_file_status ferretgold_object_load(ferretgold_read *read, void *from,
+                                              ferretgold_object_make *make, void *context,
+                                              ferretgold_loaded *loaded);
+
+/*
+ * Saves to a file at `path`, whole or not at all: at `path` with ".new" behind it first, which takes
+ * the file's place once it is on the disk. So whenever the program or the system ends, the file is that
+ * of the last call that ended well, or of the one that was ending. One call at a time may write a path.
+ *
+ * What comes back from it may have been erased behind the dump: see KEYS THAT LAST.
+ *
+ * Returns what ferretgold_object_save does; MEMORY; WRITE also where the file couldn't take its place,
+ * or where the system didn't say that it is on the disk there. Allocates what stdio does, and the path.
+ */
+ferretgold_file_status ferretgold_object_dump(ferretgold_object_cache *cache,
+                                              ferretgold_object_size *size,
+                                              ferretgold_object_copy *copy, void *context,
+                                              const char *path, uint64_t *saved);
+
+/*
+ * Loads such a file into a cache, whole or not at all: it is read twice, and `make` called only once it
+ * was found sound, as ferretgold_object_load calls it; null where objects are bytes, which are
+ * inserted at FERRETGOLD_LOW. Before each entry its key is erased, so that of one key the last comes in.
+ *
+ * Returns what ferretgold_object_load does; READ also if there is no such file.
+ */
+ferretgold_file_status ferretgold_object_warm(ferretgold_object_cache *cache, const char *path,
                                               ferretgold_object_make *make, void *context,
                                               ferretgold_loaded *loaded);
 

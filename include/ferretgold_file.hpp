@@ -1,6 +1,7 @@
 // ferretgold_file.hpp - a wrapper of ferretgold_file.h for C++17: a closed cache goes to a stream or to a
-// function, and one that is opened begins with what comes from there. What includes it is linked with
-// libferretgold_file.a, which stands before libferretgold.
+// function, and one that is opened begins with what comes from there; a cache of objects is dumped to a
+// path while it runs, and starts warm from there. What includes it is linked with libferretgold_file.a,
+// which stands before libferretgold.
 //
 // ferretgold_file.h says what each call does, and for which keys. As in ferretgold.hpp a call has a last
 // argument `why`, which gets its status, and, where exceptions are on, a form without it, which throws a
@@ -10,13 +11,19 @@
 
 #include "ferretgold.hpp"
 #include "ferretgold_file.h"
+#include "ferretgold_object.hpp"
 
 #include <cstddef>
+#include <cstdint>
+#include <cstring>
 #include <exception>
 #include <istream>
+#include <memory>
 #include <ostream>
 #include <stdexcept>
+#include <string_view>
 #include <type_traits>
+#include <utility>
 
 namespace ferretgold {
 
@@ -49,6 +56,26 @@ template <typename Function> class called {
         return has;
     }
 
+    // Of an object, by a function that shows its bytes. What that throws ends the dump, as the one byte
+    // that an object has then can't be copied.
+    static std::uint64_t size(void *context, const ferretgold_object_handle *handle) noexcept {
+        std::uint64_t size = 1;
+        (void)static_cast<called *>(context)->run([&](auto &bytes) { size = bytes(*handle).size(); });
+        return size;
+    }
+
+    static bool copy(void *context, const ferretgold_object_handle *handle, std::uint64_t offset, void *to,
+                     std::size_t count) noexcept {
+        return static_cast<called *>(context)->run(
+            [&](auto &bytes) { std::memcpy(to, bytes(*handle).data() + offset, count); });
+    }
+
+    static bool make(void *context, const ferretgold_object_saved *saved) noexcept {
+        bool is_placed = false;
+        return static_cast<called *>(context)->run([&](auto &insert) { is_placed = insert(*saved); })
+               && is_placed;
+    }
+
     // Throws on what it threw.
     void end() const {
         if (thrown_) {
@@ -57,8 +84,11 @@ template <typename Function> class called {
     }
 
   private:
-    // Whether it returned.
+    // Whether it returned: not again, once it threw.
     template <typename Call> bool run(Call call) noexcept {
+        if (thrown_ != nullptr) {
+            return false;
+        }
 #ifdef __cpp_exceptions
         try {
 #endif
@@ -157,6 +187,56 @@ cache load(const ferretgold_config &config, From &&from, ferretgold_loaded *load
         throw file_refused(why);
     }
     return it;
+}
+#endif
+
+// ---- Caches of objects -------------------------------------------------------------------------
+
+// Dumps a cache to a path, as ferretgold_object_dump does: `bytes(object)` shows an object's bytes, which
+// stay until it is asked again.
+template <typename T, typename Bytes>
+void dump(object_cache<T> &from, const char *path, Bytes &&bytes, ferretgold_file_status &why) {
+    const auto show = [&](const ferretgold_object_handle &it) -> std::string_view {
+        return bytes(*static_cast<const T *>(it.object));
+    };
+    called<decltype(show)> to(show);
+    why = ferretgold_object_dump(from.get(), to.size, to.copy, &to, path, nullptr);
+    to.end();
+}
+
+// Begins with such a dump, as ferretgold_object_warm does: `make(bytes)` makes the object of each entry,
+// or null. Where it throws, those before are in the cache. `loaded` may be null.
+template <typename T, typename Make>
+void warm(object_cache<T> &to, const char *path, Make &&make, ferretgold_loaded *loaded,
+          ferretgold_file_status &why) {
+    const auto insert = [&](const ferretgold_object_saved &it) {
+        std::unique_ptr<T> object = make(std::string_view(static_cast<const char *>(it.bytes), it.length));
+        ferretgold_inserted came = FERRETGOLD_DROPPED;
+        return object != nullptr
+               && to.insert(it.key, std::move(object), it.charge, FERRETGOLD_LOW, &came) == FERRETGOLD_OK
+               && came == FERRETGOLD_PLACED;
+    };
+    called<decltype(insert)> from(insert);
+    why = ferretgold_object_warm(to.get(), path, from.make, &from, loaded);
+    from.end();
+}
+
+#ifdef __cpp_exceptions
+template <typename T, typename Bytes> void dump(object_cache<T> &from, const char *path, Bytes &&bytes) {
+    ferretgold_file_status why{};
+    dump(from, path, bytes, why);
+    if (why != FERRETGOLD_FILE_OK) {
+        throw file_refused(why);
+    }
+}
+
+template <typename T, typename Make>
+void warm(object_cache<T> &to, const char *path, Make &&make, ferretgold_loaded *loaded = nullptr) {
+    ferretgold_file_status why{};
+    warm(to, path, make, loaded, why);
+    if (why != FERRETGOLD_FILE_OK) {
+        throw file_refused(why);
+    }
 }
 #endif
 

@@ -21,17 +21,18 @@ extern "C" {
 struct ferretgold_client {
     ferretgold_object session;
     ferretgold_cache *cache;
-    bool out; /* given out, and not given back yet: read and written only by atomics */
+    ferretgold_object *out; /* its session while it is given out, else null: by atomics only */
 #ifdef FERRETGOLD_CHECK
     const char *inside; /* the call that a thread is in: likewise */
 #endif
+    ferretgold_counts counts; /* written by its thread, and read by any: likewise */
 } __attribute__((aligned(64)));
 
 /* ---- Entering a client and leaving it -------------------------------------------------------- */
 
 #ifndef FERRETGOLD_CHECK
-/* Begins a call, unless the client is idle. */
-FERRETGOLD_INLINE bool ferretgold_enter(ferretgold_client *client, const char *call) {
+/* Begins a call on a client's session; null if the client is idle. */
+FERRETGOLD_INLINE ferretgold_object *ferretgold_enter(ferretgold_client *client, const char *call) {
     (void)call;
     return __atomic_load_n(&client->out, __ATOMIC_RELAXED);
 }
@@ -47,6 +48,23 @@ FERRETGOLD_INLINE ferretgold_status ferretgold_leave(ferretgold_client *client, 
     return FERRETGOLD_AS(ferretgold_status, status);
 }
 
+/* ---- Counting -------------------------------------------------------------------------------- */
+
+/* One more of what only the client's thread counts, so that nothing is lost between load and store. */
+FERRETGOLD_INLINE void ferretgold_count(uint64_t *number) {
+    __atomic_store_n(number, __atomic_load_n(number, __ATOMIC_RELAXED) + 1, __ATOMIC_RELAXED);
+}
+
+/* Counts a look-up or a reading. There is no third number, which would cost each miss another branch. */
+FERRETGOLD_INLINE uint32_t ferretgold_looked(ferretgold_client *client, uint32_t status) {
+    if (status == FERRETGOLD_OK) {
+        ferretgold_count(&client->counts.hits);
+        return FERRETGOLD_OK;
+    }
+    ferretgold_count(&client->counts.misses);
+    return status;
+}
+
 /* ---- Handles --------------------------------------------------------------------------------- */
 
 FERRETGOLD_INLINE ferretgold_status ferretgold_lookup(ferretgold_client *client,
@@ -55,10 +73,13 @@ FERRETGOLD_INLINE ferretgold_status ferretgold_lookup(ferretgold_client *client,
     if (client == NULL || key == NULL || handle == NULL) {
         return FERRETGOLD_NULL;
     }
-    if (!ferretgold_enter(client, __func__)) {
+    ferretgold_object *session = ferretgold_enter(client, __func__);
+    if (session == NULL) {
         return FERRETGOLD_OF_VERSION(ferretgold_idle)();
     }
-    return ferretgold_leave(client, ferretgold_raw_lookup(&client->session, key, handle));
+    return ferretgold_leave(
+        client,
+        ferretgold_looked(client, ferretgold_raw_lookup(session, key, handle)));
 }
 
 FERRETGOLD_INLINE ferretgold_status ferretgold_reref(ferretgold_client *client,
@@ -67,10 +88,11 @@ FERRETGOLD_INLINE ferretgold_status ferretgold_reref(ferretgold_client *client,
     if (client == NULL || more == NULL) {
         return FERRETGOLD_NULL;
     }
-    if (!ferretgold_enter(client, __func__)) {
+    ferretgold_object *session = ferretgold_enter(client, __func__);
+    if (session == NULL) {
         return FERRETGOLD_OF_VERSION(ferretgold_idle)();
     }
-    return ferretgold_leave(client, ferretgold_raw_reref(&client->session, &handle, more));
+    return ferretgold_leave(client, ferretgold_raw_reref(session, &handle, more));
 }
 
 FERRETGOLD_INLINE ferretgold_status ferretgold_release(ferretgold_client *client,
@@ -80,11 +102,12 @@ FERRETGOLD_INLINE ferretgold_status ferretgold_release(ferretgold_client *client
     if (client == NULL) {
         return FERRETGOLD_NULL;
     }
-    if (!ferretgold_enter(client, __func__)) {
+    ferretgold_object *session = ferretgold_enter(client, __func__);
+    if (session == NULL) {
         return FERRETGOLD_OF_VERSION(ferretgold_idle)();
     }
     const uint32_t status =
-        ferretgold_raw_release(&client->session, &handle, useful, erase_if_last, &answer);
+        ferretgold_raw_release(session, &handle, useful, erase_if_last, &answer);
     if (freed != NULL && status == FERRETGOLD_OK) {
         *freed = answer;
     }
@@ -92,59 +115,13 @@ FERRETGOLD_INLINE ferretgold_status ferretgold_release(ferretgold_client *client
 }
 
 FERRETGOLD_INLINE bool ferretgold_holds(ferretgold_client *client, ferretgold_handle handle) {
-    bool holds = false;
-    if (client != NULL && ferretgold_enter(client, __func__)) {
-        holds = ferretgold_raw_holds(&client->session, &handle);
-        ferretgold_quit(client);
+    ferretgold_object *session = client != NULL ? ferretgold_enter(client, __func__) : NULL;
+    if (session == NULL) {
+        return false;
     }
+    const bool holds = ferretgold_raw_holds(session, &handle);
+    ferretgold_quit(client);
     return holds;
-}
-
-/* ---- Inserting ------------------------------------------------------------------------------- */
-
-/* The proved library asks for pointers that aren't null, also to no bytes: the key's does then. */
-
-FERRETGOLD_INLINE ferretgold_status ferretgold_insert(ferretgold_client *client,
-                                                      const ferretgold_key *key, const void *value,
-                                                      size_t length, uint32_t charge,
-                                                      ferretgold_priority priority,
-                                                      ferretgold_inserted *inserted) {
-    const void *bytes = value != NULL ? value : key;
-    uint32_t answer = 0;
-    if (client == NULL || key == NULL || (value == NULL && length != 0)) {
-        return FERRETGOLD_NULL;
-    }
-    if (!ferretgold_enter(client, __func__)) {
-        return FERRETGOLD_OF_VERSION(ferretgold_idle)();
-    }
-    const uint32_t status =
-        ferretgold_raw_insert(&client->session, key, FERRETGOLD_AS(const uint8_t *, bytes), length,
-                              charge, FERRETGOLD_AS(uint32_t, priority), &answer);
-    if (inserted != NULL && status == FERRETGOLD_OK) {
-        *inserted = FERRETGOLD_AS(ferretgold_inserted, answer);
-    }
-    return ferretgold_leave(client, status);
-}
-
-FERRETGOLD_INLINE ferretgold_status ferretgold_insert_pinned(
-    ferretgold_client *client, const ferretgold_key *key, const void *value, size_t length,
-    uint32_t charge, ferretgold_priority priority, ferretgold_inserted *inserted,
-    ferretgold_handle *handle) {
-    const void *bytes = value != NULL ? value : key;
-    uint32_t answer = 0;
-    if (client == NULL || key == NULL || handle == NULL || (value == NULL && length != 0)) {
-        return FERRETGOLD_NULL;
-    }
-    if (!ferretgold_enter(client, __func__)) {
-        return FERRETGOLD_OF_VERSION(ferretgold_idle)();
-    }
-    const uint32_t status = ferretgold_raw_insert_pinned(
-        &client->session, key, FERRETGOLD_AS(const uint8_t *, bytes), length, charge,
-        FERRETGOLD_AS(uint32_t, priority), &answer, handle);
-    if (inserted != NULL && status == FERRETGOLD_OK) {
-        *inserted = FERRETGOLD_AS(ferretgold_inserted, answer);
-    }
-    return ferretgold_leave(client, status);
 }
 
 /* ---- Reading --------------------------------------------------------------------------------- */
@@ -155,10 +132,11 @@ FERRETGOLD_INLINE ferretgold_status ferretgold_handle_key(ferretgold_client *cli
     if (client == NULL || key == NULL) {
         return FERRETGOLD_NULL;
     }
-    if (!ferretgold_enter(client, __func__)) {
+    ferretgold_object *session = ferretgold_enter(client, __func__);
+    if (session == NULL) {
         return FERRETGOLD_OF_VERSION(ferretgold_idle)();
     }
-    return ferretgold_leave(client, ferretgold_raw_key(&client->session, &handle, key));
+    return ferretgold_leave(client, ferretgold_raw_key(session, &handle, key));
 }
 
 FERRETGOLD_INLINE ferretgold_status ferretgold_value_len(ferretgold_client *client,
@@ -166,11 +144,14 @@ FERRETGOLD_INLINE ferretgold_status ferretgold_value_len(ferretgold_client *clie
     if (client == NULL || length == NULL) {
         return FERRETGOLD_NULL;
     }
-    if (!ferretgold_enter(client, __func__)) {
+    ferretgold_object *session = ferretgold_enter(client, __func__);
+    if (session == NULL) {
         return FERRETGOLD_OF_VERSION(ferretgold_idle)();
     }
-    return ferretgold_leave(client, ferretgold_raw_value_len(&client->session, &handle, length));
+    return ferretgold_leave(client, ferretgold_raw_value_len(session, &handle, length));
 }
+
+/* The proved library asks for pointers that aren't null, also to no bytes. */
 
 FERRETGOLD_INLINE ferretgold_status ferretgold_read_value(ferretgold_client *client,
                                                           ferretgold_handle handle, void *buffer,
@@ -180,11 +161,12 @@ FERRETGOLD_INLINE ferretgold_status ferretgold_read_value(ferretgold_client *cli
     if (client == NULL || (buffer == NULL && capacity != 0)) {
         return FERRETGOLD_NULL;
     }
-    if (!ferretgold_enter(client, __func__)) {
+    ferretgold_object *session = ferretgold_enter(client, __func__);
+    if (session == NULL) {
         return FERRETGOLD_OF_VERSION(ferretgold_idle)();
     }
     return ferretgold_leave(
-        client, ferretgold_raw_read_value(&client->session, &handle,
+        client, ferretgold_raw_read_value(session, &handle,
                                           FERRETGOLD_AS(uint8_t *, bytes), capacity,
                                           length != NULL ? length : &ignored));
 }
@@ -197,12 +179,14 @@ FERRETGOLD_INLINE ferretgold_status ferretgold_get(ferretgold_client *client,
     if (client == NULL || key == NULL || (buffer == NULL && capacity != 0)) {
         return FERRETGOLD_NULL;
     }
-    if (!ferretgold_enter(client, __func__)) {
+    ferretgold_object *session = ferretgold_enter(client, __func__);
+    if (session == NULL) {
         return FERRETGOLD_OF_VERSION(ferretgold_idle)();
     }
-    return ferretgold_leave(
-        client, ferretgold_raw_get(&client->session, key, FERRETGOLD_AS(uint8_t *, bytes), capacity,
-                                   useful, length != NULL ? length : &ignored));
+    const uint32_t status =
+        ferretgold_raw_get(session, key, FERRETGOLD_AS(uint8_t *, bytes), capacity, useful,
+                           length != NULL ? length : &ignored);
+    return ferretgold_leave(client, ferretgold_looked(client, status));
 }
 
 #ifdef __cplusplus

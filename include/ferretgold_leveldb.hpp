@@ -93,6 +93,13 @@ class leveldb_cache final : public leveldb::Cache {
     // here, in parts: no picture of one moment.
     std::size_t TotalCharge() const override;
 
+    // What calls came to so far, while they go on (ferretgold_object_cache_counts).
+    ferretgold_counts counts() const noexcept {
+        ferretgold_counts counts{};
+        (void)ferretgold_object_cache_counts(cache_, &counts);
+        return counts;
+    }
+
   private:
     // What an entry stands for. Its key is behind it.
     struct node {
@@ -173,6 +180,11 @@ inline leveldb::Cache *new_leveldb_cache(std::size_t capacity,
     }
     delete it;
     return nullptr;
+}
+
+// What the calls of such a cache came to so far; it is one that new_leveldb_cache made.
+inline ferretgold_counts counts_of(const leveldb::Cache &cache) noexcept {
+    return static_cast<const leveldb_cache &>(cache).counts();
 }
 
 // ---- Making and ending it ----------------------------------------------------------------------

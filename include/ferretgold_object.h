@@ -140,8 +140,8 @@ typedef struct ferretgold_object_cache ferretgold_object_cache;
 
 /*
  * How many bytes a cache of this configuration allocates:
- *     shards * (272 + slots * 64) + 6448
- *     + clients * (1064 + 72 * shards + 192 * handles + 24 * gone)
+ *     shards * (272 + slots * 64) + 6640
+ *     + clients * (1320 + 72 * shards + 192 * handles + 24 * gone)
  * A shard's table is rounded up as ferretgold_memory says. The checking library takes more. 0 where
  * ferretgold_object_config_check refuses.
  */
@@ -239,8 +239,8 @@ ferretgold_status ferretgold_object_collect(ferretgold_object_cache *cache);
 /* ---- Inserting and erasing ------------------------------------------------------------------- */
 
 /*
- * Inserts an object of this key and charge, and keeps no handle on it: PLACED or DROPPED, as
- * ferretgold_insert has it. `object` and `inserted` may be null. Where it isn't placed, and so much
+ * Inserts an object of this key and charge, and keeps no handle on it: PLACED or DROPPED, this also
+ * where ferretgold_insert answers THERE. `object` and `inserted` may be null. Where it isn't placed, and so much
  * was freed for it that the list of the thread's client is full, deleters run and it is tried
  * again, four times at most.
  *
@@ -288,6 +288,60 @@ ferretgold_status ferretgold_object_erase(ferretgold_object_cache *cache,
 ferretgold_status ferretgold_object_usage(ferretgold_object_cache *cache, uint64_t *usage);
 ferretgold_status ferretgold_object_pinned_usage(ferretgold_object_cache *cache, uint64_t *usage);
 ferretgold_status ferretgold_object_occupancy(ferretgold_object_cache *cache, uint64_t *occupancy);
+
+/*
+ * What the calls of all clients came to, in sum, and of the client of this number: as
+ * ferretgold_cache_counts, of look-ups and insertions of objects. Where a call went from client to
+ * client, the last one counts it; those for which none was to be had are in the sum, and under the number
+ * that is as many as there are clients. A walk's handles and insertions' are no hits.
+ *
+ * Proved clients of objects tell no statistics: `dropped` and `standalone` have those that met their key,
+ * and there, evicted, evicted_hit, freed, turns, lost and by_turns are 0.
+ *
+ * ferretgold_object_client_counts refuses OUT_OF_RANGE: the number is above that of clients.
+ */
+ferretgold_status ferretgold_object_cache_counts(const ferretgold_object_cache *cache,
+                                                 ferretgold_counts *counts);
+ferretgold_status ferretgold_object_client_counts(const ferretgold_object_cache *cache,
+                                                  uint32_t number, ferretgold_counts *counts);
+
+/* ---- Walks ----------------------------------------------------------------------------------- */
+
+/* Where a walk goes on: all 0 to begin one. Behind the last slot `shard` is the number of shards. */
+typedef struct ferretgold_object_place {
+    uint32_t shard;
+    uint32_t slot;
+} ferretgold_object_place;
+
+/* What a walk calls for an entry while it holds that. Returns whether the call goes on. */
+typedef bool ferretgold_object_visit(void *context, const ferretgold_object_handle *handle);
+
+/*
+ * Looks at the next slots of a walk, at most so many, while other threads work with the cache, and
+ * visits each visible entry there: one that is visible from a walk's first call to its last exactly
+ * once. `place` gets where the next call goes on. Uses, marks, hits and misses stay. OK if slots are
+ * left, also where `visit` ended the call; MISS at the end.
+ *
+ * Refuses NO_CLIENT, HANDLES_FULL, SPENT, as ferretgold_object_pin_at does of a slot: the place is
+ * that slot's then. Costs for each slot what that costs, and a release for each entry.
+ */
+ferretgold_status ferretgold_object_walk(ferretgold_object_cache *cache,
+                                         ferretgold_object_place *place, uint64_t slots,
+                                         ferretgold_object_visit *visit, void *context);
+
+/* Whether the entries of a key are meant. */
+typedef bool ferretgold_meant(void *context, const ferretgold_key *key);
+
+/*
+ * Erases, by ferretgold_object_erase, each key that a walk comes to and that is meant; all if `meant`
+ * is null. So no entry is visible at the end that was visible all the time and whose key is meant.
+ * `hidden` gets how many were hidden, also after a refusal; it may be null.
+ *
+ * Refuses as the walk and the erasure do, once a slot refused 64 times.
+ */
+ferretgold_status ferretgold_object_erase_where(ferretgold_object_cache *cache,
+                                                ferretgold_meant *meant, void *context,
+                                                uint64_t *hidden);
 
 /* ---- Bytes ----------------------------------------------------------------------------------- */
 

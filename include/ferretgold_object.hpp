@@ -269,6 +269,19 @@ template <typename T> class object_cache {
         return hidden;
     }
 
+    // Hides each entry whose key is meant, as ferretgold_object_erase_where does, and returns how many.
+    // Ends the program where `meant` throws.
+    template <typename Meant>
+    std::uint64_t erase_where(Meant &&meant, ferretgold_status &why) noexcept {
+        std::uint64_t hidden = 0;
+        const auto ask = [](void *it, const ferretgold_key *key) noexcept -> bool {
+            return (*static_cast<std::remove_reference_t<Meant> *>(it))(*key);
+        };
+        const void *it = std::addressof(meant);
+        why = ferretgold_object_erase_where(get(), ask, const_cast<void *>(it), &hidden);
+        return hidden;
+    }
+
     std::uint64_t usage(ferretgold_status &why) noexcept {
         std::uint64_t usage = 0;
         why = ferretgold_object_usage(get(), &usage);
@@ -283,6 +296,18 @@ template <typename T> class object_cache {
         std::uint64_t occupancy = 0;
         why = ferretgold_object_occupancy(get(), &occupancy);
         return occupancy;
+    }
+
+    // What the calls of all clients came to, while they work, too; and of the client of this number.
+    ferretgold_counts counts() const noexcept {
+        ferretgold_counts counts{};
+        (void)ferretgold_object_cache_counts(get(), &counts);
+        return counts;
+    }
+    ferretgold_counts counts(std::uint32_t number, ferretgold_status &why) const noexcept {
+        ferretgold_counts counts{};
+        why = ferretgold_object_client_counts(get(), number, &counts);
+        return counts;
     }
 
     // Gives back what other threads let go, so that its entries can go.
@@ -317,6 +342,9 @@ template <typename T> class object_cache {
     std::uint32_t erase(const ferretgold_key &key) {
         return must([&](auto &why) { return erase(key, why); });
     }
+    template <typename Meant> std::uint64_t erase_where(Meant &&meant) {
+        return must([&](auto &why) { return erase_where(meant, why); });
+    }
     std::uint64_t usage() {
         return must([&](auto &why) { return usage(why); });
     }
@@ -325,6 +353,9 @@ template <typename T> class object_cache {
     }
     std::uint64_t occupancy() {
         return must([&](auto &why) { return occupancy(why); });
+    }
+    ferretgold_counts counts(std::uint32_t number) const {
+        return must([&](auto &why) { return counts(number, why); });
     }
 #endif
 

@@ -24,6 +24,17 @@ typedef struct ferretgold_object {
 
 struct ferretgold_entry; /* of ferretgold_closed.h */
 
+/* What the proved client counts itself of its look-ups and insertions. The C around it does so, too, for
+ * other threads to read. */
+typedef struct ferretgold_outcomes {
+    uint64_t hits;
+    uint64_t misses;
+    uint64_t placed;
+    uint64_t dropped;
+    uint64_t standalone;
+    uint64_t refused;
+} ferretgold_outcomes;
+
 /* What an inline call returns for a client that is idle: NO_CLIENT. Only a library of the header's
  * version has this function. */
 ferretgold_status FERRETGOLD_OF_VERSION(ferretgold_idle)(void);
@@ -44,7 +55,8 @@ void ferretgold_raw_image_free(ferretgold_object image);
 uint32_t ferretgold_raw_reopen(const ferretgold_config *config, uint32_t number,
                                ferretgold_object image, ferretgold_object *clients, size_t count,
                                ferretgold_object *cache, size_t *left_out);
-/* Where a client is refused, or one is missing, all are in their places as before. */
+/* Where a client is refused, or one is missing, all are in their places as before; after SHARED the
+ * cache has them. */
 uint32_t ferretgold_raw_close(ferretgold_object cache, ferretgold_object *clients, size_t count,
                               ferretgold_totals *totals, ferretgold_object *kept);
 /* A closed cache: first the place for one, which allocates it, then what is left of a cache. Until
@@ -101,7 +113,7 @@ uint32_t ferretgold_raw_held(ferretgold_object *client);
 uint64_t ferretgold_raw_serials_left(ferretgold_object *client);
 bool ferretgold_raw_holds(ferretgold_object *client, const ferretgold_handle *handle);
 void ferretgold_raw_stats(ferretgold_object *client, ferretgold_stats *stats);
-void ferretgold_raw_counts(ferretgold_object *client, ferretgold_counts *counts);
+void ferretgold_raw_counts(ferretgold_object *client, ferretgold_outcomes *counts);
 
 /* A cache of objects. What an entry stands for is something of the caller's: where it lies, below 2^48,
  * and of which kind it is. The library never looks there. */
@@ -133,7 +145,7 @@ uint32_t ferretgold_raw_object_open(const struct ferretgold_object_config *confi
 uint32_t ferretgold_raw_objects_open(ferretgold_object *left);
 /* Refuses the first client that is another cache's, by OTHER_CACHE, that holds a handle, by
  * HANDLES_OUT, or on whose list something is, by UNTAKEN. Then CLIENTS_OUT. Where a client is refused,
- * or one is missing, all are in their places as before. */
+ * or one is missing, all are in their places as before; after SHARED the cache has them. */
 uint32_t ferretgold_raw_object_close(ferretgold_object cache, ferretgold_object *clients,
                                      size_t count, ferretgold_object *left,
                                      ferretgold_object *kept);
@@ -151,14 +163,14 @@ uint32_t ferretgold_raw_object_pin_at(ferretgold_object *client, uint32_t shard,
                                       ferretgold_held_object *held);
 uint32_t ferretgold_raw_object_reref(ferretgold_object *client, const ferretgold_handle *handle,
                                      ferretgold_handle *more);
-/* What is freed is on the client's list then, from which `take_gone` takes the newest; it returns MISS
- * where nothing is on it. */
+/* What is freed is on the client's list then, from which `take_gone` takes the newest, and says how many
+ * are left there; it returns MISS where nothing is on it. */
 uint32_t ferretgold_raw_object_release(ferretgold_object *client, const ferretgold_handle *handle,
                                        bool useful, bool erase_if_last, bool *freed);
 uint32_t ferretgold_raw_object_erase(ferretgold_object *client, const ferretgold_key *key,
                                      uint32_t *hidden);
 uint32_t ferretgold_raw_object_take_gone(ferretgold_object *client, ferretgold_key *key,
-                                         ferretgold_object_value *object);
+                                         ferretgold_object_value *object, size_t *left);
 uint32_t ferretgold_raw_object_key(ferretgold_object *client, const ferretgold_handle *handle,
                                    ferretgold_key *key);
 uint32_t ferretgold_raw_object_charge(ferretgold_object *client, const ferretgold_handle *handle,

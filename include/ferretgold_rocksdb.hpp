@@ -46,6 +46,12 @@
 //   GetUsage and GetOccupancyCount load a word of each shard, GetPinnedUsage one of each slot, which
 //   takes milliseconds in a large cache; and each two of every client.
 //
+// COUNTS
+//   counts_of tells what calls came to, while they go on: as ferretgold_object_cache_counts, with what
+//   SetCapacity inserts, and what RocksDB looks for and inserts of its own when it opens a database.
+//   All other hits and misses are those of its tickers, where one database alone uses the cache; its
+//   ticker of additions leaves out some.
+//
 // CAPACITY
 //   SetCapacity lowers it by entries of no use, which stand for what isn't to be used, and erases
 //   others, slot by slot, until the usage is below or all that is left is held. Where a strict
@@ -250,7 +256,8 @@ class rocksdb_cache final : public rocksdb::Cache {
         }
     }
 
-    const char *Name() const override { return "FerretgoldCache"; }
+    static constexpr const char *NAME = "FerretgoldCache";
+    const char *Name() const override { return NAME; }
 
     // ---- Entries and handles ----
 
@@ -357,6 +364,13 @@ class rocksdb_cache final : public rocksdb::Cache {
 
     std::size_t GetTableAddressCount() const override {
         return std::size_t{config_.shards} * config_.slots;
+    }
+
+    // What calls came to so far.
+    ferretgold_counts counts() const noexcept {
+        ferretgold_counts counts{};
+        (void)ferretgold_object_cache_counts(cache_, &counts);
+        return counts;
     }
 
     // ---- The capacity ----
@@ -658,6 +672,13 @@ NewFerretgoldCache(const rocksdb::HyperClockCacheOptions &options) {
 #else
     return rocksdb_cache::made(options);
 #endif
+}
+
+// What the calls of such a cache came to so far; of another one nothing.
+inline ferretgold_counts counts_of(const rocksdb::Cache &cache) noexcept {
+    return std::strcmp(cache.Name(), rocksdb_cache::NAME) == 0
+               ? static_cast<const rocksdb_cache &>(cache).counts()
+               : ferretgold_counts{};
 }
 
 } // namespace ferretgold

@@ -11,6 +11,7 @@
 #include "ferretgold_object.h"
 #include "ferretgold_raw.h"
 #include "closed.h"
+#include "counts.h"
 #include "opening.h"
 
 #include <pthread.h>
@@ -19,7 +20,7 @@
 #include <string.h>
 
 #ifdef FERRETGOLD_CHECK
-static bool ferretgold_enter(ferretgold_client *client, const char *call);
+static ferretgold_object *ferretgold_enter(ferretgold_client *client, const char *call);
 static void ferretgold_quit(ferretgold_client *client);
 #include "ferretgold_inline.h"
 #include <stdio.h>
@@ -37,39 +38,28 @@ typedef struct ferretgold_row {
     _Atomic(uint64_t) spent; /* idle, with no serial left */
 } ferretgold_row;
 
-/* What a client's calls had come to when it was last given back. */
-typedef struct ferretgold_back {
-    _Alignas(LINE) _Atomic(uint64_t) hits;
-    _Atomic(uint64_t) misses;
-    _Atomic(uint64_t) placed;
-    _Atomic(uint64_t) dropped;
-    _Atomic(uint64_t) standalone;
-    _Atomic(uint64_t) refused;
-} ferretgold_back;
-
 struct ferretgold_cache {
     ferretgold_object cache; /* the proved library's */
     ferretgold_config config;
     ferretgold_client *client;
-    ferretgold_back *back; /* of each client */
     _Alignas(LINE) ferretgold_row row[];
 };
 
 /* ---- Entering a client and leaving it, checked ----------------------------------------------- */
 
 #ifdef FERRETGOLD_CHECK
-static bool ferretgold_enter(ferretgold_client *client, const char *call) {
+static ferretgold_object *ferretgold_enter(ferretgold_client *client, const char *call) {
     const char *other = __atomic_exchange_n(&client->inside, call, __ATOMIC_SEQ_CST);
     if (other != NULL) {
         (void)fprintf(stderr, "ferretgold: two threads use client %zu at once: %s and %s\n",
                       (size_t)(client - client->cache->client), call, other);
         abort();
     }
-    if (!__atomic_load_n(&client->out, __ATOMIC_SEQ_CST)) {
+    ferretgold_object *session = __atomic_load_n(&client->out, __ATOMIC_SEQ_CST);
+    if (session == NULL) {
         __atomic_store_n(&client->inside, NULL, __ATOMIC_SEQ_CST);
-        return false;
     }
-    return true;
+    return session;
 }
 
 static void ferretgold_quit(ferretgold_client *client) {
@@ -125,16 +115,11 @@ static uint32_t take(ferretgold_cache *cache) {
     return cache->config.clients;
 }
 
-/* Notes what a client's calls came to. */
-static void note(ferretgold_client *client, ferretgold_back *back) {
-    ferretgold_counts counts = {0, 0, 0, 0, 0, 0};
-    ferretgold_raw_counts(&client->session, &counts);
-    atomic_store_explicit(&back->hits, counts.hits, memory_order_relaxed);
-    atomic_store_explicit(&back->misses, counts.misses, memory_order_relaxed);
-    atomic_store_explicit(&back->placed, counts.placed, memory_order_relaxed);
-    atomic_store_explicit(&back->dropped, counts.dropped, memory_order_relaxed);
-    atomic_store_explicit(&back->standalone, counts.standalone, memory_order_relaxed);
-    atomic_store_explicit(&back->refused, counts.refused, memory_order_relaxed);
+/* Has a client's counts say what its proved client does. */
+static void tell(ferretgold_client *client) {
+    ferretgold_stats stats;
+    ferretgold_raw_stats(&client->session, &stats);
+    count_told(&client->counts, &stats);
 }
 
 /* Puts a client back among those that are idle. */
@@ -142,7 +127,7 @@ static void put_back(ferretgold_client *client) {
     ferretgold_cache *cache = client->cache;
     const size_t number = (size_t)(client - cache->client);
     ferretgold_row *row = &cache->row[number / BITS];
-    note(client, &cache->back[number]);
+    tell(client);
     const bool spent = ferretgold_raw_serials_left(&client->session) == 0;
     atomic_fetch_or(spent ? &row->spent : &row->idle, UINT64_C(1) << number % BITS);
 }
@@ -180,7 +165,7 @@ static ferretgold_status end(ferretgold_cache *cache, ferretgold_totals *totals,
 ferretgold_cache *cache_made(const ferretgold_config *config) {
     const uint32_t rows = rows_for(config->clients);
     const size_t size = sizeof(ferretgold_cache) + rows * sizeof(ferretgold_row) +
-                        config->clients * (sizeof(ferretgold_client) + sizeof(ferretgold_back));
+                        config->clients * sizeof(ferretgold_client);
     ferretgold_cache *cache = aligned_alloc(LINE, size);
     if (cache == NULL) {
         return NULL;
@@ -188,7 +173,6 @@ ferretgold_cache *cache_made(const ferretgold_config *config) {
     memset(cache, 0, size);
     cache->config = *config;
     cache->client = (ferretgold_client *)(void *)&cache->row[rows];
-    cache->back = (ferretgold_back *)(void *)&cache->client[config->clients];
     return cache;
 }
 
@@ -277,14 +261,21 @@ ferretgold_status ferretgold_cache_counts(const ferretgold_cache *cache,
     }
     memset(counts, 0, sizeof *counts);
     for (uint32_t number = 0; number < cache->config.clients; number++) {
-        ferretgold_back *back = &cache->back[number];
-        counts->hits += atomic_load_explicit(&back->hits, memory_order_relaxed);
-        counts->misses += atomic_load_explicit(&back->misses, memory_order_relaxed);
-        counts->placed += atomic_load_explicit(&back->placed, memory_order_relaxed);
-        counts->dropped += atomic_load_explicit(&back->dropped, memory_order_relaxed);
-        counts->standalone += atomic_load_explicit(&back->standalone, memory_order_relaxed);
-        counts->refused += atomic_load_explicit(&back->refused, memory_order_relaxed);
+        counts_added(&cache->client[number].counts, counts);
     }
+    return FERRETGOLD_OK;
+}
+
+ferretgold_status ferretgold_client_counts(const ferretgold_cache *cache, uint32_t number,
+                                           ferretgold_counts *counts) {
+    if (cache == NULL || counts == NULL) {
+        return FERRETGOLD_NULL;
+    }
+    if (number >= cache->config.clients) {
+        return FERRETGOLD_OUT_OF_RANGE;
+    }
+    memset(counts, 0, sizeof *counts);
+    counts_added(&cache->client[number].counts, counts);
     return FERRETGOLD_OK;
 }
 
@@ -312,7 +303,7 @@ ferretgold_status ferretgold_client_open(ferretgold_cache *cache, ferretgold_cli
         return FERRETGOLD_NO_CLIENT;
     }
     *client = &cache->client[number];
-    __atomic_store_n(&(*client)->out, true, __ATOMIC_SEQ_CST);
+    __atomic_store_n(&(*client)->out, &(*client)->session, __ATOMIC_SEQ_CST);
     return FERRETGOLD_OK;
 }
 
@@ -345,7 +336,7 @@ static ferretgold_status give_back(ferretgold_cache *cache, ferretgold_client *c
     if (ferretgold_raw_held(&client->session) != 0) {
         return ferretgold_leave(client, FERRETGOLD_HANDLES_OUT);
     }
-    __atomic_store_n(&client->out, false, __ATOMIC_SEQ_CST);
+    __atomic_store_n(&client->out, NULL, __ATOMIC_SEQ_CST);
     ferretgold_quit(client);
     put_back(client);
     return FERRETGOLD_OK;
@@ -360,7 +351,60 @@ ferretgold_status ferretgold_client_close_releasing(ferretgold_cache *cache,
     return give_back(cache, client, true, __func__);
 }
 
-/* ---- Erasing --------------------------------------------------------------------------------- */
+/* ---- Inserting and erasing ------------------------------------------------------------------- */
+
+/* The proved library asks for pointers that aren't null, also to no bytes: the key's does then. */
+static const uint8_t *bytes_of(const void *value, const ferretgold_key *key) {
+    return value != NULL ? value : (const void *)key;
+}
+
+/* Ends an insertion: counts what came of it, and tells that. */
+static ferretgold_status inserted_so(ferretgold_client *client, uint32_t status, uint32_t answer,
+                                     ferretgold_inserted *inserted) {
+    ferretgold_stats stats;
+    ferretgold_raw_stats(&client->session, &stats);
+    if (count_insertion(&client->counts, status, answer, &stats) && answer == FERRETGOLD_DROPPED) {
+        answer = FERRETGOLD_THERE;
+    }
+    if (inserted != NULL && status == FERRETGOLD_OK) {
+        *inserted = (ferretgold_inserted)answer;
+    }
+    return ferretgold_leave(client, status);
+}
+
+ferretgold_status ferretgold_insert(ferretgold_client *client, const ferretgold_key *key,
+                                    const void *value, size_t length, uint32_t charge,
+                                    ferretgold_priority priority, ferretgold_inserted *inserted) {
+    uint32_t answer = 0;
+    if (client == NULL || key == NULL || (value == NULL && length != 0)) {
+        return FERRETGOLD_NULL;
+    }
+    if (!ferretgold_enter(client, __func__)) {
+        return FERRETGOLD_NO_CLIENT;
+    }
+    const uint32_t status =
+        ferretgold_raw_insert(&client->session, key, bytes_of(value, key), length, charge,
+                              (uint32_t)priority, &answer);
+    return inserted_so(client, status, answer, inserted);
+}
+
+ferretgold_status ferretgold_insert_pinned(ferretgold_client *client, const ferretgold_key *key,
+                                           const void *value, size_t length, uint32_t charge,
+                                           ferretgold_priority priority,
+                                           ferretgold_inserted *inserted,
+                                           ferretgold_handle *handle) {
+    uint32_t answer = 0;
+    if (client == NULL || key == NULL || handle == NULL || (value == NULL && length != 0)) {
+        return FERRETGOLD_NULL;
+    }
+    if (!ferretgold_enter(client, __func__)) {
+        return FERRETGOLD_NO_CLIENT;
+    }
+    const uint32_t status =
+        ferretgold_raw_insert_pinned(&client->session, key, bytes_of(value, key), length, charge,
+                                     (uint32_t)priority, &answer, handle);
+    return inserted_so(client, status, answer, inserted);
+}
 
 ferretgold_status ferretgold_erase(ferretgold_client *client, const ferretgold_key *key,
                                    uint32_t *hidden) {
@@ -371,8 +415,10 @@ ferretgold_status ferretgold_erase(ferretgold_client *client, const ferretgold_k
         return FERRETGOLD_NO_CLIENT;
     }
     uint32_t ignored = 0;
-    return ferretgold_leave(client, ferretgold_raw_erase(&client->session, key,
-                                                         hidden != NULL ? hidden : &ignored));
+    const uint32_t status =
+        ferretgold_raw_erase(&client->session, key, hidden != NULL ? hidden : &ignored);
+    tell(client);
+    return ferretgold_leave(client, status);
 }
 
 /* ---- Totals and words ------------------------------------------------------------------------ */
@@ -470,6 +516,7 @@ ferretgold_status ferretgold_statistics(ferretgold_client *client, ferretgold_st
         return FERRETGOLD_NO_CLIENT;
     }
     ferretgold_raw_stats(&client->session, stats);
+    count_told(&client->counts, stats);
     return ferretgold_leave(client, FERRETGOLD_OK);
 }
 
@@ -516,6 +563,7 @@ const char *ferretgold_status_text(ferretgold_status status) {
     case FERRETGOLD_CLIENTS_OUT: return "clients of the cache are out";
     case FERRETGOLD_BAD_SIZE: return "the library doesn't know this size of configuration";
     case FERRETGOLD_NO_SEED: return "the system has no number for a seed yet";
+    case FERRETGOLD_SHARED: return "somebody else has the cache";
     }
     return object_status_text((uint32_t)status);
 }

@@ -1,13 +1,14 @@
 /* Caches of bytes and files, over ferretgold_closed.h and ferretgold_image.h, with what files of
- * objects share. It is tested, not proved.
+ * objects share. It is tested, not proved. Which entries of a file come in is chosen.c's.
  *
  * An entry's checksum has its number in it, so that no two entries can change places, and the file's
  * begin says how many there are: what isn't refused is what was saved, as far as 64 bits tell. */
 #define _DEFAULT_SOURCE /* for htole64 */
 
-#include "ferretgold_image.h"
+#include "chosen.h"
 #include "file.h"
 #include "limits.h"
+#include "opening.h"
 
 #define XXH_INLINE_ALL
 #include <xxhash.h>
@@ -181,16 +182,9 @@ static ferretgold_file_status read_entry(const file_source *from, uint64_t numbe
     return status;
 }
 
-/* Adds an entry to those with which a cache is to begin. */
-static ferretgold_status add(ferretgold_image *image, const file_entry *it, size_t length) {
-    const ferretgold_key key = {le64toh(it->w0), le64toh(it->w1)};
-    return ferretgold_image_add(image, &key, it->value, length, le32toh(it->charge),
-                                le32toh(it->uses));
-}
-
-/* Lists a file's entries, as far as they can be read: how many `*read` says. */
-static ferretgold_file_status read_entries(const file_source *from, uint64_t entries,
-                                           ferretgold_image *image, uint64_t *read) {
+/* Reads a file's entries, as far as that goes: how many `*read` says. */
+static ferretgold_file_status read_entries(const file_source *from, uint64_t entries, chosen *those,
+                                           uint64_t *read) {
     file_entry it;
     size_t length = 0;
     for (*read = 0; *read < entries; ++*read) {
@@ -198,11 +192,37 @@ static ferretgold_file_status read_entries(const file_source *from, uint64_t ent
         if (status != FERRETGOLD_FILE_OK) {
             return status;
         }
-        if (add(image, &it, length) != FERRETGOLD_OK) {
+        const file_value entry = {{le64toh(it.w0), le64toh(it.w1)}, *read,
+                                  it.value, le32toh(it.charge),
+                                  le32toh(it.uses), (uint32_t)length};
+        if (!chosen_add(those, &entry)) {
             return FERRETGOLD_FILE_MEMORY;
         }
     }
     return file_end(from);
+}
+
+/* Draws a configuration's seed, if it has none, and has places for what its cache takes. */
+static ferretgold_file_status places_for(const ferretgold_config *config, ferretgold_config *seeded,
+                                         chosen **those) {
+    if (ferretgold_config_check(config) != FERRETGOLD_OK) {
+        return FERRETGOLD_FILE_REFUSED;
+    }
+    *seeded = *config;
+    if (seed_drawn(&seeded->seed) != FERRETGOLD_OK) {
+        return FERRETGOLD_FILE_REFUSED;
+    }
+    *those = chosen_open(seeded);
+    return *those != NULL ? FERRETGOLD_FILE_OK : FERRETGOLD_FILE_MEMORY;
+}
+
+/* Opens a cache with what was chosen, which is freed: how many entries it has. */
+static ferretgold_file_status begun(const ferretgold_config *config, chosen *those,
+                                    ferretgold_cache **cache, uint64_t *left) {
+    ferretgold_image *image = chosen_image(those, left);
+    return image != NULL && ferretgold_reopen(config, image, cache, NULL) == FERRETGOLD_OK
+               ? FERRETGOLD_FILE_OK
+               : FERRETGOLD_FILE_MEMORY;
 }
 
 /* Whether a cache comes with this status. */
@@ -214,10 +234,10 @@ ferretgold_file_status ferretgold_load(const ferretgold_config *config, ferretgo
                                        void *context, bool keep_front, ferretgold_cache **cache,
                                        ferretgold_loaded *loaded) {
     const file_source from = {read, context};
-    ferretgold_image *image = NULL;
+    ferretgold_config seeded;
     ferretgold_loaded it = {0, 0, 0};
+    chosen *those = NULL;
     uint64_t entries = 0;
-    size_t left_out = 0;
     if (config == NULL || read == NULL || cache == NULL) {
         return FERRETGOLD_FILE_NULL;
     }
@@ -225,25 +245,22 @@ ferretgold_file_status ferretgold_load(const ferretgold_config *config, ferretgo
     if (!is_taken(status, keep_front)) {
         return status;
     }
-    if (ferretgold_config_check(config) != FERRETGOLD_OK) {
-        return FERRETGOLD_FILE_REFUSED;
-    }
-    if (ferretgold_image_open(&image) != FERRETGOLD_OK) {
-        return FERRETGOLD_FILE_MEMORY;
+    ferretgold_file_status opened = places_for(config, &seeded, &those);
+    if (opened != FERRETGOLD_FILE_OK) {
+        return opened;
     }
     if (status == FERRETGOLD_FILE_OK) {
-        status = read_entries(&from, entries, image, &it.entries);
+        status = read_entries(&from, entries, those, &it.entries);
     }
     if (!is_taken(status, keep_front)) {
-        ferretgold_image_free(image);
+        chosen_free(those);
         return status;
     }
-    const ferretgold_status opened = ferretgold_reopen(config, image, cache, &left_out);
-    if (opened != FERRETGOLD_OK) {
-        return opened == FERRETGOLD_OUT_OF_MEMORY ? FERRETGOLD_FILE_MEMORY : FERRETGOLD_FILE_REFUSED;
+    opened = begun(&seeded, those, cache, &it.left);
+    if (opened != FERRETGOLD_FILE_OK) {
+        return opened;
     }
-    it.lost = left_out;
-    it.left = it.entries - it.lost;
+    it.lost = it.entries - it.left;
     if (loaded != NULL) {
         *loaded = it;
     }

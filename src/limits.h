@@ -4,7 +4,7 @@
 #define FERRETGOLD_LIMITS_H
 
 enum { FEWEST_SLOTS = 8, MOST_SLOTS = 65536, MOST_SHARDS = 64, MOST_CLIENTS = 1024 };
-/* Bytes of a value. */
-enum { MOST_VALUE = 4096 };
+/* Bytes of a value; and of a hundred slots those that have entries. */
+enum { MOST_VALUE = 4096, OCCUPANCY_PERCENT = 84 };
 
 #endif

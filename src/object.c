@@ -2,6 +2,7 @@
  * of the calling thread, fills the record that a handle points to, and runs deleters once it is
  * over. It is tested, not proved. */
 #include "object.h"
+#include "counts.h"
 
 enum {
     SOME = 4,       /* how many handles of its queue a call gives back */
@@ -35,8 +36,13 @@ QUICKLY void delete_all(object_cell *it) {
     ferretgold_key key;
     ferretgold_object_value value;
     do {
-        while (ferretgold_raw_object_take_gone(&client->session, &key, &value) == FERRETGOLD_OK) {
+        size_t left = 1;
+        while (left > 0
+               && ferretgold_raw_object_take_gone(&client->session, &key, &value, &left)
+                      == FERRETGOLD_OK) {
+            client->untaken = false;
             delete_object(client->cache, &key, &value);
+            left += client->untaken; /* by its own calls */
         }
     } while (RARELY(it->alone != NULL) && has_deleted_alone(client->cache, it));
     client->untaken = false;
@@ -219,12 +225,15 @@ static inline const ferretgold_object_handle *shown_by(object_client *client,
                  &held->object, held->charge);
 }
 
-/* Looks up the key in `held` by one client. */
+/* Looks up the key in `held` by one client, and counts what comes of it, unless it is refused. */
 static inline uint32_t looked_up(object_client *client, ferretgold_held_object *held,
                                  const ferretgold_object_handle **handle) {
     const uint32_t status = ferretgold_raw_object_hold(&client->session, held);
     if (status == FERRETGOLD_OK) {
         *handle = shown_by(client, held);
+        count_more(&client->counts.hits);
+    } else if (!RARELY(status > FERRETGOLD_MISS)) {
+        count_more(&client->counts.misses);
     }
     return status;
 }
@@ -236,11 +245,15 @@ SLOWLY static ferretgold_status looked_up_slowly(ferretgold_object_cache *cache,
     ferretgold_held_object held = {.key = key};
     object_cell *it = enter(cache);
     if (it == NULL) {
+        count_together(&cache->nowhere.misses);
         return FERRETGOLD_MISS;
     }
     uint32_t status = looked_up(it->in_use, &held, handle);
     for (uint32_t changes = 0; status > FERRETGOLD_MISS && may_retry(it, status, &changes);) {
         status = looked_up(it->in_use, &held, handle);
+    }
+    if (status > FERRETGOLD_MISS) {
+        count_more(&it->in_use->counts.misses);
     }
     return leave(it, status);
 }
@@ -475,8 +488,9 @@ static inline void unpin(object_client *client, const insertion *it) {
 static void take_back(object_client *client, const insertion *it) {
     ferretgold_key key;
     ferretgold_object_value value;
+    size_t left;
     unpin(client, it);
-    (void)ferretgold_raw_object_take_gone(&client->session, &key, &value);
+    (void)ferretgold_raw_object_take_gone(&client->session, &key, &value, &left);
 }
 
 /* Tries again where that helps: where the list was full the first call of a thread empties it, and
@@ -539,6 +553,21 @@ static inline const ferretgold_object_handle *shown_of(object_cell *cell, const 
     return shown(its, it->handle.serial, it->key, &it->value, it->charge);
 }
 
+/* Counts an insertion by what came of it in the end. */
+static inline void count_put(ferretgold_object_cache *cache, const object_cell *cell,
+                             uint32_t status, uint32_t placing) {
+    ferretgold_counts *counts = RARELY(cell == NULL) ? &cache->nowhere : &cell->in_use->counts;
+    uint64_t *outcome = outcome_of(counts, status, placing, false);
+    if (RARELY(outcome == NULL)) {
+        return;
+    }
+    if (RARELY(cell == NULL)) {
+        count_together(outcome);
+    } else {
+        count_more(outcome);
+    }
+}
+
 QUICKLY ferretgold_status insert(ferretgold_object_cache *cache, insertion *it, way way,
                                  ferretgold_inserted *inserted,
                                  const ferretgold_object_handle **handle, const char *call) {
@@ -548,6 +577,7 @@ QUICKLY ferretgold_status insert(ferretgold_object_cache *cache, insertion *it, 
     owned_begins(cache->owned, object, it->value.kind, call);
     const uint32_t status = RARELY(cell == NULL) ? insert_nowhere(cache, it, way)
                                                  : insert_by(cell, it, way);
+    count_put(cache, cell, status, it->placing);
     if (RARELY(status != FERRETGOLD_OK) || RARELY(it->placing == FERRETGOLD_DROPPED)) {
         owned_ends(cache->owned, object, it->value.kind);
     }

@@ -45,7 +45,8 @@ typedef struct object_client {
     bool untaken;                   /* something may be on the proved list */
     atomic_bool used;               /* what the checking library knows of it */
     uint32_t number;
-    _Alignas(LINE) _Atomic(record *) queue; /* of what other threads gave back */
+    _Alignas(LINE) ferretgold_counts counts; /* written by who uses it, and read by any thread */
+    _Alignas(LINE) _Atomic(record *) queue;  /* of what other threads gave back */
 } object_client;
 
 /* The number of the thread that names a client stands above this bit, by which another one claims
@@ -65,6 +66,7 @@ struct ferretgold_object_cache {
     struct owned *owned;     /* what the checking library knows of it */
     record *spare;           /* as many as clients */
     _Alignas(LINE) _Atomic(uint64_t) spares; /* the first not in use, from 1, and a count */
+    ferretgold_counts nowhere;               /* of calls for which no client was to be had */
 };
 
 /* What a thread knows of a cache. */

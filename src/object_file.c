@@ -5,12 +5,12 @@
 #define _DEFAULT_SOURCE /* for htole64 */
 
 #include "file.h"
+#include "walk.h"
 
 #define XXH_INLINE_ALL
 #include <xxhash.h>
 
 #include <endian.h>
-#include <sched.h>
 #include <stddef.h>
 #include <stdlib.h>
 #include <string.h>
@@ -19,8 +19,7 @@ enum {
     OBJECT_VERSION = 2,
     BYTES_KIND = 0,     /* of objects that are bytes */
     PIECE = 4096,       /* bytes of an object are copied by so many */
-    FIRST_ROOM = 65536, /* for bytes that are read */
-    TRIES = 64          /* to hold the entry of a slot */
+    FIRST_ROOM = 65536  /* for bytes that are read */
 };
 
 /* An entry as it stands in a file before its bytes; with a charge of 0 the end. */
@@ -107,45 +106,23 @@ static bool write_object(object_sink *it, const ferretgold_object_handle *handle
     return true;
 }
 
-/* Holds the entry of a slot: MISS where there is none. */
-static ferretgold_status held_at(ferretgold_object_cache *cache, uint32_t shard, uint32_t slot,
-                                 const ferretgold_object_handle **handle) {
-    for (int tries = 1;; tries++) {
-        const ferretgold_status status = ferretgold_object_pin_at(cache, shard, slot, handle);
-        if (status <= FERRETGOLD_MISS || tries == TRIES) {
-            return status;
-        }
-        (void)sched_yield();
-    }
+/* Writes an entry that a walk came to. */
+static bool write_visited(void *to, const ferretgold_object_handle *handle) {
+    return write_object(to, handle);
 }
 
-static ferretgold_file_status write_slot(ferretgold_object_cache *cache, uint32_t shard,
-                                         uint32_t slot, object_sink *it) {
-    const ferretgold_object_handle *handle = NULL;
-    const ferretgold_status status = held_at(cache, shard, slot, &handle);
-    if (status != FERRETGOLD_OK) {
-        return status == FERRETGOLD_MISS ? FERRETGOLD_FILE_OK : FERRETGOLD_FILE_BUSY;
-    }
-    const bool could = write_object(it, handle);
-    (void)ferretgold_object_release(cache, handle, false, false, NULL);
-    return could ? FERRETGOLD_FILE_OK : FERRETGOLD_FILE_WRITE;
-}
-
-static ferretgold_file_status write_all(ferretgold_object_cache *cache,
-                                        const ferretgold_object_config *config, object_sink *it) {
+static ferretgold_file_status write_all(ferretgold_object_cache *cache, object_sink *it) {
     static const ferretgold_key no_key = {0, 0};
     if (!file_begun(OBJECT_VERSION, 0, it->write, it->to)) {
         return FERRETGOLD_FILE_WRITE;
     }
-    for (uint32_t shard = 0; shard < config->shards; shard++) {
-        for (uint32_t slot = 0; slot < config->slots; slot++) {
-            const ferretgold_file_status status = write_slot(cache, shard, slot, it);
-            if (status != FERRETGOLD_FILE_OK) {
-                return status;
-            }
-        }
+    const ferretgold_status status = walked(cache, write_visited, it);
+    if (status > FERRETGOLD_MISS) {
+        return FERRETGOLD_FILE_BUSY;
     }
-    return write_head(it, &no_key, 0, 0, it->entries) ? FERRETGOLD_FILE_OK : FERRETGOLD_FILE_WRITE;
+    return status == FERRETGOLD_MISS && write_head(it, &no_key, 0, 0, it->entries)
+               ? FERRETGOLD_FILE_OK
+               : FERRETGOLD_FILE_WRITE;
 }
 
 ferretgold_file_status ferretgold_object_save(ferretgold_object_cache *cache,
@@ -153,16 +130,14 @@ ferretgold_file_status ferretgold_object_save(ferretgold_object_cache *cache,
                                               ferretgold_object_copy *copy, void *context,
                                               ferretgold_write *write, void *to, uint64_t *saved) {
     object_sink it = {size, copy, context, write, to, 0};
-    ferretgold_object_config config;
-    if (write == NULL || (size == NULL) != (copy == NULL)
-        || ferretgold_object_config_of(cache, &config) != FERRETGOLD_OK) {
+    if (cache == NULL || write == NULL || (size == NULL) != (copy == NULL)) {
         return FERRETGOLD_FILE_NULL;
     }
     if (size == NULL) {
         it.size = bytes_size;
         it.copy = bytes_copy;
     }
-    const ferretgold_file_status status = write_all(cache, &config, &it);
+    const ferretgold_file_status status = write_all(cache, &it);
     if (saved != NULL) {
         *saved = it.entries;
     }

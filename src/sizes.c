@@ -16,13 +16,13 @@ uint64_t ferretgold_memory(const ferretgold_config *config) {
     const uint64_t shards = config->shards, clients = config->clients;
     const uint64_t slot = UINT64_C(8) * (7 + (uint64_t)config->room);
     const uint64_t table = config->slots * slot + 32; /* with the ledgers behind the slots */
-    const uint64_t client = 728 + 72 * shards + 104 * (uint64_t)config->handles;
-    return shards * (176 + taken(table)) + clients * client + (clients + 63) / 64 * 64 + 560;
+    const uint64_t client = 856 + 72 * shards + 104 * (uint64_t)config->handles;
+    return shards * (176 + taken(table)) + clients * client + (clients + 63) / 64 * 64 + 496;
 }
 
 /* How many entries a shard has at most. */
 static uint32_t places(const ferretgold_config *config) {
-    return config->slots * 84 / 100;
+    return config->slots * OCCUPANCY_PERCENT / 100;
 }
 
 /* ---- For so much memory ---------------------------------------------------------------------- */

@@ -230,7 +230,8 @@ class object_cache : public cache {
     void forget() {
         ferretgold_key key;
         ferretgold_object_value object;
-        while (ferretgold_raw_object_take_gone(&client_, &key, &object) == FERRETGOLD_OK) {
+        std::size_t left = 1;
+        while (left != 0 && ferretgold_raw_object_take_gone(&client_, &key, &object, &left) == FERRETGOLD_OK) {
             goes(static_cast<std::uint32_t>(object.address - 1));
         }
     }

@@ -122,7 +122,8 @@ class ferret_objects {
     static void forget(ferretgold_object &client) {
         ferretgold_key key;
         ferretgold_object_value object;
-        while (ferretgold_raw_object_take_gone(&client, &key, &object) == FERRETGOLD_OK) {
+        std::size_t left = 1;
+        while (left != 0 && ferretgold_raw_object_take_gone(&client, &key, &object, &left) == FERRETGOLD_OK) {
             delete[] block_at(object.address);
         }
     }

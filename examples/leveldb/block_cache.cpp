@@ -1,8 +1,11 @@
-// A database whose block cache is this cache: written, compacted and read.
+// A database whose block cache is this cache: written, compacted and read, and what the cache
+// counted of that.
 // usage: block_cache [FOLDER]
 #include "ferretgold_leveldb.hpp"
 
 #include <leveldb/db.h>
+
+#include "../c/prometheus.h"
 
 #include <iostream>
 #include <memory>
@@ -26,6 +29,8 @@ int main(int count, char **words) {
     for (int key = 0; status.ok() && key < 10000; key++) {
         status = database->Get(leveldb::ReadOptions(), std::to_string(key), &value);
     }
-    std::cout << status.ToString() << ", cached: " << blocks->TotalCharge() << " bytes of blocks\n";
+    std::cout << status.ToString() << ", cached: " << blocks->TotalCharge() << " bytes of blocks" << std::endl;
+    const labelled_counts counts = {"cache=\"leveldb\"", ferretgold::counts_of(*blocks)};
+    print_metrics(stdout, &counts, 1);
     return status.ok() && blocks->TotalCharge() > 1000000 ? 0 : 1;
 }

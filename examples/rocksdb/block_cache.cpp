@@ -1,9 +1,11 @@
 // Writes a row to a database of RocksDB whose block cache is Ferretgold, and reads it twice: the
-// first time from the file, and then from the cache.
+// first time from the file, and then from the cache; then prints what the cache counted.
 #include <ferretgold_rocksdb.hpp>
 
 #include <rocksdb/db.h>
 #include <rocksdb/table.h>
+
+#include "../c/prometheus.h"
 
 #include <iostream>
 
@@ -21,6 +23,8 @@ int main(int count, char **words) {
     status = status.ok() ? db->Get({}, "key", &value) : status;
     status = status.ok() ? db->Get({}, "key", &value) : status;
     delete db;
-    std::cout << value << ", " << table.block_cache->GetOccupancyCount() << " blocks\n";
+    std::cout << value << ", " << table.block_cache->GetOccupancyCount() << " blocks" << std::endl;
+    const labelled_counts counts = {"cache=\"rocksdb\"", ferretgold::counts_of(*table.block_cache)};
+    print_metrics(stdout, &counts, 1);
     return status.ok() && value == "value" ? 0 : 1;
 }

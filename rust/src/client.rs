@@ -229,6 +229,7 @@ fn came_of(number: u32) -> Inserted {
     match number {
         0 => Inserted::Placed,
         1 => Inserted::Dropped,
-        _ => Inserted::Standalone,
+        2 => Inserted::Standalone,
+        _ => Inserted::There,
     }
 }

@@ -28,6 +28,8 @@ pub enum FileError {
     Refused(Refused),
     /// Memory was refused.
     Memory,
+    /// No client or no handle was to be had to walk over a cache of objects.
+    Busy,
 }
 
 /// What came of loading a file.
@@ -38,7 +40,7 @@ pub struct Loaded {
     pub entries: u64,
     /// Those that are in the cache.
     pub left: u64,
-    /// The others: their shard had no room, or a slot has none for the value.
+    /// The others: there was no room, or a later entry of the key.
     pub lost: u64,
 }
 
@@ -80,7 +82,9 @@ impl Closed {
 
 impl Cache {
     /// Opens a cache that begins with what [`Closed::save`] wrote: each entry once, with its key, its value,
-    /// its charge and its uses. Where they are too many the first come in. The reader is read to its end: a
+    /// its charge and its uses. Where they are too many, those of most uses come in, and of one key the last
+    /// (`ferretgold_file.h` says it exactly). While it loads it takes at most twice
+    /// [`Config::memory`] and 64 KiB, with one shard three times. The reader is read to its end: a
     /// [`std::io::BufReader`], say, as each entry is read by itself.
     pub fn load<R: Read + ?Sized>(
         config: &Config,
@@ -122,14 +126,14 @@ fn load<R: Read + ?Sized>(
 
 /// A writer or a reader while C calls it. How it failed, and what it panicked with, wait until C has
 /// returned: nothing unwinds through C.
-struct Called<'a, T: ?Sized> {
+pub(crate) struct Called<'a, T: ?Sized> {
     it: &'a mut T,
     failed: Option<io::Error>,
     panicked: Option<Box<dyn Any + Send>>,
 }
 
 impl<'a, T: ?Sized> Called<'a, T> {
-    fn of(it: &'a mut T) -> Called<'a, T> {
+    pub(crate) fn of(it: &'a mut T) -> Called<'a, T> {
         Called {
             it,
             failed: None,
@@ -137,8 +141,11 @@ impl<'a, T: ?Sized> Called<'a, T> {
         }
     }
 
-    /// What a call of it came to, if it came to its end.
-    fn by<D>(&mut self, call: impl FnOnce(&mut T) -> io::Result<D>) -> Option<D> {
+    /// What a call of it came to, if it came to its end. None is made behind one that panicked.
+    pub(crate) fn by<D>(&mut self, call: impl FnOnce(&mut T) -> io::Result<D>) -> Option<D> {
+        if self.panicked.is_some() {
+            return None;
+        }
         let it = &mut *self.it;
         match catch_unwind(AssertUnwindSafe(|| call(it))) {
             Ok(Ok(done)) => return Some(done),
@@ -149,7 +156,7 @@ impl<'a, T: ?Sized> Called<'a, T> {
     }
 
     /// How it failed; a panic goes on.
-    fn ended(self) -> Option<io::Error> {
+    pub(crate) fn ended(self) -> Option<io::Error> {
         if let Some(why) = self.panicked {
             resume_unwind(why);
         }
@@ -198,7 +205,7 @@ fn fill<R: Read + ?Sized>(from: &mut R, bytes: &mut [u8]) -> io::Result<usize> {
 
 // ---- Refusals ------------------------------------------------------------------------------------
 
-const OK: u32 = 0;
+pub(crate) const OK: u32 = 0;
 const WRITE: u32 = 2;
 const READ: u32 = 3;
 const KIND: u32 = 4;
@@ -206,9 +213,10 @@ const VERSION: u32 = 5;
 const DAMAGED: u32 = 6;
 const REFUSED: u32 = 7;
 const MEMORY: u32 = 8;
+const BUSY: u32 = 9;
 
 /// What a status says, with how a writer or a reader failed, or why the configuration was refused.
-fn error_of(status: u32, failed: Option<io::Error>, refused: Refused) -> FileError {
+pub(crate) fn error_of(status: u32, failed: Option<io::Error>, refused: Refused) -> FileError {
     let failed = failed.unwrap_or_else(|| ErrorKind::Other.into());
     match status {
         WRITE => FileError::Write(failed),
@@ -217,6 +225,7 @@ fn error_of(status: u32, failed: Option<io::Error>, refused: Refused) -> FileErr
         VERSION => FileError::Version,
         DAMAGED => FileError::Damaged,
         MEMORY => FileError::Memory,
+        BUSY => FileError::Busy,
         _ => FileError::Refused(refused),
     }
 }
@@ -231,6 +240,7 @@ impl fmt::Display for FileError {
             FileError::Damaged => DAMAGED,
             FileError::Refused(_) => REFUSED,
             FileError::Memory => MEMORY,
+            FileError::Busy => BUSY,
         };
         let text = unsafe { CStr::from_ptr(raw::ferretgold_file_status_text(status)) };
         out.write_str(text.to_str().unwrap_or("unknown"))

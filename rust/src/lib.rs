@@ -87,6 +87,8 @@ mod image;
 mod loads;
 mod object_cache;
 mod object_config;
+#[cfg(feature = "file")]
+mod object_file;
 mod objects;
 mod owned;
 mod panics;
@@ -144,10 +146,13 @@ pub enum Priority {
 pub enum Inserted {
     /// The entry is in the table.
     Placed,
-    /// As if the entry had been placed and evicted at once. Of [`Client::insert`] only.
+    /// There was no place for it: as if the entry had been placed and evicted at once. Of insertions
+    /// without a handle only.
     Dropped,
-    /// The entry is in no table, and goes with its last handle. Of [`Client::insert_pinned`] only.
+    /// The entry is in no table, and goes with its last handle. Of those with one only.
     Standalone,
+    /// An entry of the key was met, which is used and keeps its value. Of [`Client::insert`] only.
+    There,
 }
 
 /// What the calls of a client did on all shards. Counts saturate.
@@ -172,22 +177,38 @@ pub struct Stats {
     pub lost: u64,
 }
 
-/// Outcomes of look-ups and insertions.
+/// What calls came to. Each insertion that isn't refused for its arguments or for lack of memory is one of
+/// `placed`, `there`, `dropped`, `standalone` and `refused`, and one of `by_turns`.
 #[repr(C)]
 #[derive(Clone, Copy, Debug, Default, PartialEq, Eq)]
 pub struct Counts {
     /// Look-ups that gave a handle, and readings by a key that gave a value.
     pub hits: u64,
-    /// And those that found none.
+    /// All others.
     pub misses: u64,
-    /// Insertions, by what came of them.
+    /// Insertions that were placed.
     pub placed: u64,
-    /// Likewise.
+    /// Those that met an entry of their key: [`Inserted::There`], or `Standalone`.
+    pub there: u64,
+    /// Those that found no place, or no empty slot, and were dropped.
     pub dropped: u64,
-    /// Likewise.
+    /// And those that stand alone for that.
     pub standalone: u64,
     /// Those that were refused for lack of handles, serials, capacity or places.
     pub refused: u64,
+    /// As in [`Stats`], like the next four.
+    pub evicted: u64,
+    /// Likewise.
+    pub evicted_hit: u64,
+    /// Likewise.
+    pub freed: u64,
+    /// Likewise.
+    pub turns: u64,
+    /// Likewise.
+    pub lost: u64,
+    /// Insertions by how many turns of the hand each took: the first none, the k-th behind it at most
+    /// 2<sup>k - 1</sup> and more than those before, the last more.
+    pub by_turns: [u64; 16],
 }
 
 /// What was left of a cache that was closed, by the books and slot by slot. They are equal.
@@ -240,11 +261,20 @@ impl Cache {
         unsafe { raw::ferretgold_value_limit(self.at.as_ptr()) }
     }
 
-    /// Outcomes of the calls of all clients, of each until it last went back.
+    /// What the calls of all clients came to, in sum, also while they are at work: of calls that had
+    /// returned. No number falls.
     pub fn counts(&self) -> Counts {
         let mut counts = Counts::default();
         let _ = unsafe { raw::ferretgold_cache_counts(self.at.as_ptr(), &mut counts) };
         counts
+    }
+
+    /// The same of the client of this number, whoever has it. Refuses [`Refused::OUT_OF_RANGE`].
+    pub fn client_counts(&self, number: u32) -> Result<Counts, Refused> {
+        let mut counts = Counts::default();
+        let cache = self.at.as_ptr();
+        judged(unsafe { raw::ferretgold_client_counts(cache, number, &mut counts) })?;
+        Ok(counts)
     }
 
     /// A client that is idle. It waits for nothing and allocates nothing.

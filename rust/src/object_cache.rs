@@ -25,7 +25,7 @@
 
 use crate::owned::{Owned, Rejected};
 use crate::refused::judged;
-use crate::{panics, raw, Inserted, Key, ObjectConfig, Priority, Refused};
+use crate::{panics, raw, Counts, Inserted, Key, ObjectConfig, Priority, Refused};
 use std::ffi::c_void;
 use std::marker::PhantomData;
 use std::mem::{size_of, ManuallyDrop};
@@ -69,6 +69,26 @@ unsafe fn from_raw<V>(object: *mut c_void, kind: u16) -> Owned<V> {
     }
 }
 
+/// What a walk asks of each key.
+struct Asking<'a> {
+    meant: &'a mut dyn FnMut(&Key) -> bool,
+    panicked: bool,
+}
+
+/// # Safety
+/// The context is an [`Asking`] that nobody else uses, and the key is one.
+unsafe extern "C" fn is_meant(context: *mut c_void, key: *const Key) -> bool {
+    // SAFETY: the caller says so.
+    let (asking, key) = unsafe { (&mut *context.cast::<Asking>(), &*key) };
+    if asking.panicked {
+        return false;
+    }
+    let mut answer = None;
+    panics::caught(|| answer = Some((asking.meant)(key)));
+    asking.panicked = answer.is_none();
+    answer == Some(true)
+}
+
 /// What C calls for each object of a cache of `V`, once, when nobody holds it. It doesn't unwind.
 ///
 /// # Safety
@@ -99,6 +119,11 @@ impl<V: Send + Sync> ObjectCache<V> {
 }
 
 impl<V> ObjectCache<V> {
+    #[cfg(feature = "file")]
+    pub fn raw(&self) -> *mut raw::ObjectCache {
+        self.at.as_ptr()
+    }
+
     pub fn config(&self) -> ObjectConfig {
         let mut config = raw::ObjectConfig::default();
         // SAFETY: *Open*.
@@ -142,6 +167,22 @@ impl<V> ObjectCache<V> {
         judged(status).map(|()| hidden)
     }
 
+    /// Nothing more is meant, once `meant` panicked; the panic goes on when the walk is over.
+    pub fn erase_where(&self, meant: &mut dyn FnMut(&Key) -> bool) -> Result<u64, Refused> {
+        let mut asking = Asking {
+            meant,
+            panicked: false,
+        };
+        let mut hidden = 0;
+        // SAFETY: *Open*. C calls the function before its call is over.
+        let status = unsafe {
+            let context = ptr::from_mut(&mut asking).cast();
+            raw::ferretgold_object_erase_where(self.at.as_ptr(), is_meant, context, &mut hidden)
+        };
+        panics::go_on();
+        judged(status).map(|()| hidden)
+    }
+
     pub fn usage(&self) -> Result<u64, Refused> {
         self.total(raw::ferretgold_object_usage)
     }
@@ -163,6 +204,20 @@ impl<V> ObjectCache<V> {
         let status = unsafe { call(self.at.as_ptr(), &mut total) };
         panics::go_on();
         judged(status).map(|()| total)
+    }
+
+    pub fn counts(&self) -> Counts {
+        let mut counts = Counts::default();
+        // SAFETY: *Open*.
+        let _ = unsafe { raw::ferretgold_object_cache_counts(self.at.as_ptr(), &mut counts) };
+        counts
+    }
+
+    pub fn client_counts(&self, number: u32) -> Result<Counts, Refused> {
+        let (cache, mut counts) = (self.at.as_ptr(), Counts::default());
+        // SAFETY: *Open*.
+        judged(unsafe { raw::ferretgold_object_client_counts(cache, number, &mut counts) })?;
+        Ok(counts)
     }
 
     pub fn collect(&self) {

@@ -3,7 +3,7 @@
 use crate::loads::{LoadError, Loads};
 use crate::object_cache::{Home, ObjectCache};
 use crate::owned::{Owned, Rejected};
-use crate::{Inserted, Key, ObjectConfig, Pinned, Priority, Refused};
+use crate::{Counts, Inserted, Key, ObjectConfig, Pinned, Priority, Refused};
 use std::cell::Cell;
 use std::fmt;
 use std::sync::atomic::{AtomicUsize, Ordering};
@@ -195,6 +195,20 @@ impl<V> Objects<V> {
         self.home().cache().erase(&(*key).into())
     }
 
+    /// Hides each visible entry whose key is meant, as a walk comes to it, and says how many: all that
+    /// are visible all the time. Where `meant` panics, those before are hidden, and the panic goes on.
+    /// Refuses [`Refused::HANDLES_FULL`], [`Refused::SPENT`], [`Refused::NO_CLIENT`].
+    ///
+    /// ```no_run
+    /// # let cache: ferretgold::Objects<Vec<u8>> = todo!();
+    /// let of_file = 7u64.to_le_bytes();
+    /// cache.erase_where(|key| key.starts_with(&of_file)).unwrap();
+    /// ```
+    pub fn erase_where(&self, mut meant: impl FnMut(&[u8; 16]) -> bool) -> Result<u64, Refused> {
+        let cache = self.home().cache();
+        cache.erase_where(&mut |key| meant(&(*key).into()))
+    }
+
     /// What is charged for the entries of the table, and for those that stand alone. Refuses
     /// [`Refused::NO_CLIENT`], as the next two do.
     pub fn usage(&self) -> Result<u64, Refused> {
@@ -211,6 +225,19 @@ impl<V> Objects<V> {
         self.home().cache().occupancy()
     }
 
+    /// What the calls of all threads came to, in sum, also while they are at work: of calls that had
+    /// returned. No number falls. An insertion that isn't asked for by priority counts as one that is
+    /// held, and those of [`there`](Counts::there) and behind `refused` are 0.
+    pub fn counts(&self) -> Counts {
+        self.home().cache().counts()
+    }
+
+    /// The same of the client of this number, or, under the number of clients, of the calls for which
+    /// none was to be had. Refuses [`Refused::OUT_OF_RANGE`].
+    pub fn client_counts(&self, number: u32) -> Result<Counts, Refused> {
+        self.home().cache().client_counts(number)
+    }
+
     /// Gives back what other threads than those that got it gave back, where its client is in no
     /// call, so that its entries can go.
     pub fn collect(&self) {
@@ -224,6 +251,12 @@ impl<V> Objects<V> {
         (0..shards).flat_map(move |shard| {
             (0..slots).filter_map(move |slot| self.home().pin_at(shard, slot).map(Pinned::of))
         })
+    }
+
+    /// The cache in C.
+    #[cfg(feature = "file")]
+    pub(crate) fn raw(&self) -> *mut crate::raw::ObjectCache {
+        self.home().cache().raw()
     }
 
     /// Where this thread counts what it holds.

@@ -89,6 +89,7 @@ extern "C" {
     pub fn ferretgold_config_of(cache: *const Cache, config: *mut Config) -> u32;
     pub fn ferretgold_value_limit(cache: *const Cache) -> usize;
     pub fn ferretgold_cache_counts(cache: *const Cache, counts: *mut Counts) -> u32;
+    pub fn ferretgold_client_counts(cache: *const Cache, number: u32, counts: *mut Counts) -> u32;
     #[link_name = "ferretgold_open_0_1"]
     pub fn ferretgold_open(config: *const Config, cache: *mut *mut Cache) -> u32;
     pub fn ferretgold_client_open(cache: *mut Cache, client: *mut *mut Client) -> u32;
@@ -208,6 +209,9 @@ extern "C" {
     pub fn ferretgold_version() -> *const c_char;
 }
 
+/// What a walk asks of each key.
+pub type Meant = unsafe extern "C" fn(context: *mut c_void, key: *const Key) -> bool;
+
 /// What a cache of objects calls for each that it hands back.
 pub type Deleter =
     unsafe extern "C" fn(context: *mut c_void, key: *const Key, object: *mut c_void, kind: u16);
@@ -270,9 +274,21 @@ extern "C" {
         key: *const Key,
         hidden: *mut u32,
     ) -> u32;
+    pub fn ferretgold_object_erase_where(
+        cache: *mut ObjectCache,
+        meant: Meant,
+        context: *mut c_void,
+        hidden: *mut u64,
+    ) -> u32;
     pub fn ferretgold_object_usage(cache: *mut ObjectCache, usage: *mut u64) -> u32;
     pub fn ferretgold_object_pinned_usage(cache: *mut ObjectCache, usage: *mut u64) -> u32;
     pub fn ferretgold_object_occupancy(cache: *mut ObjectCache, occupancy: *mut u64) -> u32;
+    pub fn ferretgold_object_cache_counts(cache: *const ObjectCache, counts: *mut Counts) -> u32;
+    pub fn ferretgold_object_client_counts(
+        cache: *const ObjectCache,
+        number: u32,
+        counts: *mut Counts,
+    ) -> u32;
 }
 
 /// Callbacks that ferretgold_file.h takes.
@@ -288,6 +304,32 @@ pub type Read = unsafe extern "C" fn(
 ) -> usize;
 
 #[cfg(feature = "file")]
+#[repr(C)]
+#[derive(Clone, Copy, Debug)]
+pub struct ObjectSaved {
+    pub key: Key,
+    pub bytes: *const c_void,
+    pub length: usize,
+    pub charge: u32,
+    pub kind: u16,
+}
+
+#[cfg(feature = "file")]
+pub type ObjectSize =
+    unsafe extern "C" fn(context: *mut c_void, handle: *const ObjectHandle) -> u64;
+#[cfg(feature = "file")]
+pub type ObjectCopy = unsafe extern "C" fn(
+    context: *mut c_void,
+    handle: *const ObjectHandle,
+    offset: u64,
+    bytes: *mut c_void,
+    count: usize,
+) -> bool;
+#[cfg(feature = "file")]
+pub type ObjectMake =
+    unsafe extern "C" fn(context: *mut c_void, saved: *const ObjectSaved) -> bool;
+
+#[cfg(feature = "file")]
 extern "C" {
     pub fn ferretgold_save(closed: *mut Closed, write: Write, context: *mut c_void) -> u32;
     pub fn ferretgold_load(
@@ -296,6 +338,21 @@ extern "C" {
         context: *mut c_void,
         keep_front: bool,
         cache: *mut *mut Cache,
+        loaded: *mut Loaded,
+    ) -> u32;
+    pub fn ferretgold_object_dump(
+        cache: *mut ObjectCache,
+        size: ObjectSize,
+        copy: ObjectCopy,
+        context: *mut c_void,
+        path: *const c_char,
+        saved: *mut u64,
+    ) -> u32;
+    pub fn ferretgold_object_warm(
+        cache: *mut ObjectCache,
+        path: *const c_char,
+        make: ObjectMake,
+        context: *mut c_void,
         loaded: *mut Loaded,
     ) -> u32;
     pub fn ferretgold_file_status_text(status: u32) -> *const c_char;

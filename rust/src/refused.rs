@@ -47,6 +47,7 @@ statuses! {
     BAD_GONE = 43: "The configuration's `gone` is out of range.";
     UNTAKEN = 44: "Objects weren't all taken; no call of this crate is refused so.";
     NO_SEED = 45: "The system has no number to draw for a seed yet.";
+    SHARED = 46: "Somebody else has the cache; not known to come.";
 }
 
 impl fmt::Display for Refused {

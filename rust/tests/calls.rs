@@ -33,7 +33,7 @@ fn a_value_is_read_by_its_key() {
     let mut block = [9; 6];
     assert_eq!(client.get(KEY, &mut block, true), Got::Miss);
     assert_eq!(inserts(&client, KEY, b"hello"), Ok(Inserted::Placed));
-    assert_eq!(inserts(&client, KEY, b"other"), Ok(Inserted::Dropped));
+    assert_eq!(inserts(&client, KEY, b"other"), Ok(Inserted::There));
     assert_eq!(client.get(KEY, &mut block[..4], true), Got::TooShort(5));
     assert_eq!(block, [9; 6]);
     assert_eq!(client.get(KEY, &mut block, false), Got::Value(5));
@@ -43,16 +43,21 @@ fn a_value_is_read_by_its_key() {
     assert_eq!(client.get(KEY, &mut [], true), Got::Miss);
     assert_eq!(inserts(&client, KEY, b""), Ok(Inserted::Placed));
     assert_eq!(client.get(KEY, &mut [], true), Got::Value(0));
-    assert_eq!(cache.counts(), Counts::default());
-    drop(client);
     let counted = Counts {
         hits: 2,
-        misses: 2,
+        misses: 3,
         placed: 2,
-        dropped: 1,
+        there: 1,
+        by_turns: [3, 0, 0, 0, 0, 0, 0, 0, 0, 0, 0, 0, 0, 0, 0, 0],
         ..Counts::default()
     };
     assert_eq!(cache.counts(), counted);
+    assert_eq!(cache.client_counts(client.number()), Ok(counted));
+    assert_eq!(
+        cache.client_counts(1 - client.number()),
+        Ok(Counts::default())
+    );
+    assert_eq!(cache.client_counts(2), Err(Refused::OUT_OF_RANGE));
 }
 
 #[test]

@@ -1,12 +1,13 @@
 //! Caches that are saved and loaded: by writers and readers of all kinds, also those that fail or panic.
 
 use ferretgold::{
-    Cache, Closed, Config, Entry, FileError, Got, Inserted, Key, Loaded, Priority, Refused,
-    UNSEEDED,
+    Cache, Closed, Config, Entry, FileError, Got, Inserted, Key, Loaded, ObjectConfig, Objects,
+    Priority, Refused, UNSEEDED,
 };
 use std::error::Error;
 use std::io::{self, BufReader, BufWriter, ErrorKind, Read, Write};
 use std::panic::{catch_unwind, AssertUnwindSafe};
+use std::{env, fs, process};
 
 const ENTRIES: u64 = 20;
 
@@ -289,4 +290,51 @@ fn writers_and_readers_may_be_of_any_kind() {
     let mut from = BufReader::new(&file[..]);
     let (cache, _) = Cache::load(&small(), &mut from as &mut dyn Read).unwrap();
     assert_eq!(whole(cache), ENTRIES - 1);
+}
+
+/// What a call panics with.
+fn panicked<T>(call: impl FnOnce() -> T) -> Option<&'static str> {
+    let panic = catch_unwind(AssertUnwindSafe(|| drop(call()))).err()?;
+    panic.downcast_ref().copied()
+}
+
+#[test]
+fn objects_are_dumped_while_they_are_there_and_come_back() {
+    let path = env::temp_dir().join(format!("ferretgold-{}.dump", process::id()));
+    let open = || Objects::<Vec<u8>>::open(&ObjectConfig::default()).unwrap();
+    let (from, to, mut asked) = (open(), open(), 0);
+    let keys = (0..ENTRIES).map(|number| <[u8; 16]>::from(key_of(number)));
+    for (key, number) in keys.clone().zip(0..) {
+        from.insert(&key, value_of(number), 7).unwrap();
+    }
+    assert_eq!(from.dump(&path, |it| it).unwrap(), ENTRIES);
+    let ends = || {
+        from.dump(&path, |it| {
+            asked += 1;
+            if asked == 2 {
+                panic!("bytes")
+            }
+            it
+        })
+    };
+    assert_eq!((panicked(ends), asked), (Some("bytes"), 2));
+    let loaded = to
+        .warm(&path, |it| (it.len() != 9).then(|| it.to_vec()))
+        .unwrap();
+    assert_eq!((loaded.entries, loaded.left), (ENTRIES, ENTRIES - 1));
+    for (key, number) in keys.zip(0..) {
+        let found = to.get(&key).map(|it| (it.to_vec(), it.charge()));
+        assert_eq!(found, (number != 3).then(|| (value_of(number), 7)));
+    }
+    let warms = || to.warm(&path, |_| -> Option<Vec<u8>> { panic!("made") });
+    assert_eq!(panicked(warms), Some("made"));
+    fs::remove_file(&path).unwrap();
+    assert!(matches!(
+        to.warm(&path, |it| Some(it.to_vec())),
+        Err(FileError::Read(_))
+    ));
+    assert!(matches!(
+        from.dump(&path.join("none"), |it| it),
+        Err(FileError::Write(_))
+    ));
 }

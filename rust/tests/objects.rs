@@ -191,6 +191,26 @@ fn what_is_held_stays_when_it_was_erased() {
 }
 
 #[test]
+fn what_is_meant_is_erased_until_a_panic() {
+    let cache = Objects::<u8>::open(&small()).unwrap();
+    cache.insert(&KEY, 1, 7).unwrap();
+    cache.insert(&OTHER, 2, 5).unwrap();
+    let mut asked = 0;
+    let panics = catch_unwind(AssertUnwindSafe(|| {
+        cache.erase_where(|_| {
+            asked += 1;
+            panic!("asked")
+        })
+    }));
+    assert_eq!(panics.unwrap_err().downcast_ref(), Some(&"asked"));
+    assert_eq!((asked, cache.occupancy()), (1, Ok(2)));
+    assert_eq!(cache.erase_where(|key| *key == OTHER), Ok(1));
+    assert!(cache.get(&OTHER).is_none() && cache.get(&KEY).is_some());
+    assert_eq!(cache.erase_where(|_| true), Ok(1));
+    assert_eq!(cache.occupancy(), Ok(0));
+}
+
+#[test]
 fn totals_are_of_what_is_there_and_held() {
     let cache = Objects::<u8>::open(&small()).unwrap();
     cache.insert(&KEY, 1, 7).unwrap();
@@ -198,6 +218,12 @@ fn totals_are_of_what_is_there_and_held() {
     let _held = cache.get(&OTHER).unwrap();
     assert_eq!((cache.usage(), cache.occupancy()), (Ok(12), Ok(2)));
     assert_eq!(cache.pinned_usage(), Ok(5));
+    let (counts, clients) = (cache.counts(), cache.config().clients);
+    assert_eq!((counts.placed, counts.hits, counts.misses), (2, 1, 0));
+    let of_each = |number| cache.client_counts(number).unwrap().placed;
+    assert_eq!((0..=clients).map(of_each).sum::<u64>(), 2);
+    let beyond = cache.client_counts(clients + 1);
+    assert_eq!(beyond, Err(Refused::OUT_OF_RANGE));
 }
 
 #[test]

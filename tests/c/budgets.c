@@ -24,7 +24,7 @@ static void sizes(void) {
         {1 << 20, 16, 1, 8192, 2, 16, 1, 5734, true},
         {100000, 8, 7, 1024, 1, 16, 1, 716, true},
         {160000, 8, 8, 1024, 1, 16, 2, 1433, true},
-        {2312, 0, 1, 8, 1, 1, 1, 5, true},
+        {2440, 0, 1, 8, 1, 1, 1, 5, true},
         {3872, 0, 1, 16, 1, 3, 1, 11, true},
         {UINT64_MAX, 4096, 1, 65536, 512, 16, 64, 2936012, false},
         /* more slots where there are fewer shards than threads, or more */
@@ -32,7 +32,7 @@ static void sizes(void) {
         {5 << 20, 1000, 1, 2048, 125, 16, 2, 2867, true},
         /* handles of all clients are within a quarter of a shard, but one each */
         {18 << 20, 4096, 64, 1024, 512, 3, 2, 1433, true},
-        {300000, 8, 300, 256, 1, 1, 1, 179, true},
+        {340000, 8, 300, 256, 1, 1, 1, 179, true},
         /* next to half, and below */
         {6 << 20, 4096, 1, 512, 512, 16, 1, 358, false},
         {UINT64_C(1) << 30, 64, 64, 65536, 8, 16, 64, 2936012, true},

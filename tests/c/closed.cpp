@@ -155,7 +155,10 @@ int closed_caches() {
         ferretgold::client client = it.open_client();
         EXPECT(client.insert(KEY, "kept", 4, 5, FERRETGOLD_HIGH) == 0);
         EXPECT(!it.close_keeping(why) && why == FERRETGOLD_CLIENTS_OUT && it.get() != nullptr);
-        EXPECT(it.counts().placed == 0 && none.counts().placed == 0);
+        EXPECT(it.counts().placed == 1 && none.counts().placed == 0);
+        EXPECT(it.counts(client.number()).placed == 1);
+        EXPECT(both([&](auto &by) { return it.counts(it.config().clients, by); },
+                    [&] { return it.counts(it.config().clients); }, FERRETGOLD_OUT_OF_RANGE));
     }
     EXPECT(it.counts().placed == 1 && it.counts().hits == 0);
     closed left = it.close_keeping(), empty;

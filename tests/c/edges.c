@@ -33,7 +33,8 @@ static void texts(void) {
         {40, "the library doesn't know this size of configuration"},
         {41, "the client's list is full"}, {42, "the object's address is 2^48 or above"},
         {43, "gone must be 4 to 65,536"}, {44, "objects weren't taken off a list"},
-        {45, "the system has no number for a seed yet"}, {2, "unknown"}, {46, "unknown"}};
+        {45, "the system has no number for a seed yet"}, {46, "somebody else has the cache"},
+        {2, "unknown"}, {47, "unknown"}};
     for (size_t k = 0; k < sizeof all / sizeof *all; k++) {
         EXPECT(strcmp(ferretgold_status_text((ferretgold_status)all[k].status), all[k].text), 0);
     }
@@ -487,64 +488,6 @@ static void taken_again(ferretgold_cache *cache) {
     EXPECT(ferretgold_client_close(cache, second), 0);
 }
 
-/* Whether a cache counts so. */
-static void counts(const ferretgold_cache *cache, ferretgold_counts wanted) {
-    ferretgold_counts is = {5, 5, 5, 5, 5, 5};
-    EXPECT(ferretgold_cache_counts(cache, &is), 0);
-    EXPECT(memcmp(&is, &wanted, sizeof is), 0);
-}
-
-/* What each call counts as, once its client is back. */
-static void counted(void) {
-    ferretgold_config config = SMALL;
-    ferretgold_cache *cache = NULL;
-    ferretgold_client *it[2] = {NULL, NULL};
-    ferretgold_handle handle[5], none;
-    ferretgold_counts is;
-    char byte = 0;
-    config.strict = true, config.handles = 5;
-    EXPECT(ferretgold_cache_counts(NULL, &is), 16);
-    EXPECT(ferretgold_open(&config, &cache), 0);
-    EXPECT(ferretgold_cache_counts(cache, NULL), 16);
-    for (int k = 0; k < 2; k++) {
-        EXPECT(ferretgold_client_open(cache, &it[k]), 0);
-    }
-    EXPECT(ferretgold_lookup(it[0], &KEY, &none), 1);
-    for (int k = 0; k < 3; k++) {
-        EXPECT(ferretgold_get(it[0], &KEY, NULL, 0, true, NULL), 1);
-    }
-    EXPECT(ferretgold_insert(it[0], &KEY, "a", 1, 1, FERRETGOLD_LOW, NULL), 0);
-    EXPECT(ferretgold_insert(it[0], &KEY, "b", 1, 1, FERRETGOLD_LOW, NULL), 0);
-    for (int k = 0; k < 4; k++) {
-        EXPECT(ferretgold_insert_pinned(it[0], &OTHER, "", 0, 1, FERRETGOLD_LOW, NULL, &handle[k]),
-               0);
-    }
-    EXPECT(ferretgold_get(it[0], &KEY, &byte, 1, true, NULL), 0);
-    EXPECT(ferretgold_get(it[0], &KEY, NULL, 0, true, NULL), 20);
-    EXPECT(ferretgold_lookup(it[0], &KEY, &handle[4]), 0);
-    EXPECT(ferretgold_lookup(it[0], &KEY, &none), 23);
-    EXPECT(ferretgold_insert_pinned(it[0], &KEY, "", 0, 1, FERRETGOLD_LOW, NULL, &none), 23);
-    for (int k = 0; k < 5; k++) {
-        EXPECT(ferretgold_insert(it[0], &KEY, "", 0, 601, FERRETGOLD_LOW, NULL), 25);
-    }
-    EXPECT(ferretgold_insert(it[0], &KEY, "", 0, 0, FERRETGOLD_LOW, NULL), 18);
-    EXPECT(ferretgold_insert(it[1], &KEY, "", 0, 601, FERRETGOLD_LOW, NULL), 25);
-    for (int k = 0; k < 3; k++) {
-        EXPECT(ferretgold_get(it[1], &KEY, &byte, 1, true, NULL), 0);
-    }
-    counts(cache, (ferretgold_counts){0, 0, 0, 0, 0, 0});
-    EXPECT(ferretgold_client_close_releasing(cache, it[0]), 0);
-    counts(cache, (ferretgold_counts){2, 4, 2, 1, 3, 6});
-    EXPECT(ferretgold_client_close(cache, it[1]), 0);
-    counts(cache, (ferretgold_counts){5, 4, 2, 1, 3, 7});
-    EXPECT(ferretgold_client_open(cache, &it[1]), 0);
-    EXPECT(ferretgold_get(it[1], &KEY, &byte, 1, true, NULL), 0);
-    counts(cache, (ferretgold_counts){5, 4, 2, 1, 3, 7});
-    EXPECT(ferretgold_client_close(cache, it[1]), 0);
-    counts(cache, (ferretgold_counts){6, 4, 2, 1, 3, 7});
-    EXPECT(ferretgold_close(cache, NULL), 0);
-}
-
 void edges(void) {
     ferretgold_cache *cache = NULL;
     ferretgold_client *client[2] = {NULL, NULL};
@@ -560,7 +503,6 @@ void edges(void) {
     no_memory(65536);
     no_copy();
     initialiser();
-    counted();
     EXPECT(ferretgold_open(&SMALL, &cache), 0);
     EXPECT(ferretgold_client_open(cache, &client[0]), 0);
     two_caches(cache, client[0]);

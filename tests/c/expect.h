@@ -23,6 +23,9 @@ void images(void);
 /* What no trace shows. */
 void edges(void);
 
+/* What each call counts as. */
+void counted(void);
+
 /* Seeds, and what is drawn. */
 void seeds(void);
 

@@ -13,7 +13,7 @@ enum { MOST_FILE = 1 << 14 };
 
 #include <inttypes.h>
 
-enum { ENTRIES = 20, LONGEST = 48, MOST_VALUE = 4096, ENOUGH = 100 /* calls or requests */ };
+enum { ENTRIES = 20, LONGEST = 48, MOST_VALUE = 4096, MANY = 70000, ENOUGH = 200 /* calls or requests */ };
 
 /* ---- Entries --------------------------------------------------------------------------------- */
 
@@ -164,7 +164,7 @@ static void into_others(image *file) {
     where = "";
 }
 
-/* Where they are too many the first come in. */
+/* Where they are too many as many come in as there are places. */
 static void into_less(image *file) {
     const ferretgold_config config = config_of(1, 8, 6, 40, 5);
     ferretgold_loaded loaded = {0};
@@ -244,9 +244,10 @@ static void seal(image *file) {
     set_number(head + HEAD - 8, 8, XXH64_digest(&state));
 }
 
-/* A value of as many bytes as a slot has at most, and numbers that would fit no shorter field. */
+/* A value of as many bytes as a slot has at most, and numbers that would fit no shorter field: as they are
+ * loaded, they are saved again. */
 static void longest(void) {
-    static image file;
+    static image file, again;
     static uint8_t value[MOST_VALUE], buffer[MOST_VALUE];
     const ferretgold_config config = config_of(1, 8, MOST_VALUE / 8, UINT64_C(1) << 34, 5);
     const ferretgold_key key = {UINT64_C(0xfedcba9876543210), UINT64_C(0x0f1e2d3c4b5a6978)};
@@ -282,6 +283,39 @@ static void longest(void) {
     }
     EXPECT(entry.charge == charge && entry.uses == uses, true);
     EXPECT(entry.key.w0 == key.w0 && entry.key.w1 == key.w1, true);
+    again.calls_left = SIZE_MAX;
+    EXPECT(ferretgold_save(closed, write_image, &again), FERRETGOLD_FILE_OK);
+    EXPECT(again.length == file.length && memcmp(again.bytes, file.bytes, file.length) == 0, true);
+    ferretgold_closed_free(closed);
+}
+
+/* Looks at the checksum of the begin, or of the entry of this number. */
+static bool look_at_sum(void *number, const void *bytes, size_t count) {
+    const size_t at = *(uint64_t *)number == 0 ? BEGIN - 8 : HEAD - 8;
+    EXPECT(count, at + 8);
+    EXPECT(number_at((const uint8_t *)bytes + at, 8), XXH64(bytes, at, *(uint64_t *)number));
+    EXPECT(*(uint64_t *)number != 0 || number_at((const uint8_t *)bytes + 16, 8) == MANY, true);
+    *(uint64_t *)number += 1;
+    return true;
+}
+
+/* More entries than two bytes count are saved, each under its number. */
+static void numbered(void) {
+    const ferretgold_config config = config_of(2, 1 << 16, 1, 2 * MANY, 5);
+    ferretgold_cache *cache;
+    ferretgold_client *client;
+    ferretgold_closed *closed;
+    uint64_t number = 0;
+    EXPECT(ferretgold_open(&config, &cache), FERRETGOLD_OK);
+    EXPECT(ferretgold_client_open(cache, &client), FERRETGOLD_OK);
+    for (uint64_t it = 0; it < MANY; it++) {
+        const ferretgold_key key = {it, it};
+        EXPECT(ferretgold_insert(client, &key, NULL, 0, 1, FERRETGOLD_LOW, NULL), FERRETGOLD_OK);
+    }
+    EXPECT(ferretgold_client_close(cache, client), FERRETGOLD_OK);
+    EXPECT(ferretgold_close_keeping(cache, &closed), FERRETGOLD_OK);
+    EXPECT(ferretgold_save(closed, look_at_sum, &number), FERRETGOLD_FILE_OK);
+    EXPECT(number, MANY + 1);
     ferretgold_closed_free(closed);
 }
 
@@ -327,6 +361,7 @@ static void otherwise_sealed(const image *file) {
         {BEGIN + 24, 4, UINT32_MAX, FERRETGOLD_FILE_DAMAGED, 0},
         {BEGIN + 28, 4, 1, FERRETGOLD_FILE_DAMAGED, 0},
         {16, 8, UINT64_MAX, FERRETGOLD_FILE_DAMAGED, ENTRIES - 1},
+        {16, 8, (UINT64_C(1) << 32) + ENTRIES - 1, FERRETGOLD_FILE_DAMAGED, ENTRIES - 1},
     };
     for (size_t row = 0; row < sizeof rows / sizeof *rows; row++) {
         uint64_t entries = 77;
@@ -384,7 +419,9 @@ static void refused(image *file) {
     EXPECT(load(file, &config, false, &cache, NULL), FERRETGOLD_FILE_REFUSED);
     draws_left = -1;
     config.slots = 33;
+    heap_left = 0;
     EXPECT(load(file, &config, false, &cache, NULL), FERRETGOLD_FILE_REFUSED);
+    heap_left = SIZE_MAX;
     EXPECT(load(file, NULL, false, &cache, NULL), FERRETGOLD_FILE_NULL);
     EXPECT(load(file, &config, false, NULL, NULL), FERRETGOLD_FILE_NULL);
     EXPECT(ferretgold_load(&config, NULL, file, false, &cache, NULL), FERRETGOLD_FILE_NULL);
@@ -411,6 +448,7 @@ static void rows(void) {
     texts();
     as_described(&file);
     longest();
+    numbered();
     into_others(&file);
     into_less(&file);
     damaged(&file);

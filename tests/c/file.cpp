@@ -351,6 +351,92 @@ void exceptions() {}
 
 #endif
 
+// ---- Objects -----------------------------------------------------------------------------------
+
+ferretgold::object_cache<std::string> texts() {
+    ferretgold_object_config config = FERRETGOLD_OBJECT_CONFIG;
+    ferretgold_status why{};
+    config.slots = 64;
+    config.shards = 1;
+    config.clients = 2;
+    config.handles = 4;
+    config.capacity = 1000;
+    return ferretgold::object_cache<std::string>(config, why);
+}
+
+// One is longer than what is copied at once.
+std::string text_of(std::uint64_t number) {
+    std::string it = value_of(number);
+    while (number == 7 && it.size() < 9000) {
+        it += std::to_string(it.size());
+    }
+    return it;
+}
+
+// Dumps to a path and starts warm from there.
+void dumps(const std::string &path) {
+    ferretgold::object_cache<std::string> from = texts(), to = texts();
+    ferretgold_file_status why{};
+    ferretgold_loaded loaded{};
+    for (std::uint64_t number = 0; number < ENTRIES; number++) {
+        EXPECT(from.insert({number, 2}, std::make_unique<std::string>(text_of(number)), 7) == FERRETGOLD_OK);
+    }
+    const auto bytes = [](const std::string &it) { return std::string_view(it); };
+    const auto make = [](std::string_view it) {
+        return it.size() == 9 ? nullptr : std::make_unique<std::string>(it);
+    };
+    ferretgold::dump(from, path.c_str(), bytes, why);
+    EXPECT(why == FERRETGOLD_FILE_OK);
+    ferretgold::warm(to, path.c_str(), make, &loaded, why);
+    EXPECT(why == FERRETGOLD_FILE_OK && loaded.entries == ENTRIES && loaded.left == ENTRIES - 1);
+    for (std::uint64_t number = 0; number < ENTRIES; number++) {
+        ferretgold_status found{};
+        const auto it = to.lookup({number, 2}, found);
+        EXPECT(number == 3 ? !it : it && *it == text_of(number) && it.charge() == 7);
+    }
+    ferretgold::warm(to, (path + ".none").c_str(), make, nullptr, why);
+    EXPECT(why == FERRETGOLD_FILE_READ);
+    std::remove(path.c_str());
+}
+
+#ifdef __cpp_exceptions
+// What a function throws is thrown on, and a dump that it ended leaves the one before.
+void thrown_from_dumps(const std::string &path) {
+    ferretgold::object_cache<std::string> from = texts(), to = texts();
+    const auto bytes = [](const std::string &it) { return std::string_view(it); };
+    int asked = 0, seen = 0;
+    const auto throws = [&](const std::string &it) -> std::string_view {
+        return ++asked == 2 ? throw std::runtime_error("bytes") : std::string_view(it);
+    };
+    from.insert({1, 2}, std::make_unique<std::string>("one"), 7);
+    ferretgold::dump(from, path.c_str(), bytes);
+    from.insert({2, 2}, std::make_unique<std::string>("two"), 7);
+    try {
+        ferretgold::dump(from, path.c_str(), throws);
+    } catch (const std::runtime_error &why) {
+        seen += std::strcmp(why.what(), "bytes") == 0;
+    }
+    try {
+        ferretgold::warm(to, path.c_str(), [](std::string_view) -> std::unique_ptr<std::string> { throw 5; });
+    } catch (int why) {
+        seen += why == 5;
+    }
+    try {
+        ferretgold::dump(from, (path + ".none/it").c_str(), bytes);
+    } catch (const ferretgold::file_refused &why) {
+        seen += why.status == FERRETGOLD_FILE_WRITE;
+    }
+    EXPECT(seen == 3 && asked == 2);
+    ferretgold_loaded loaded{};
+    const auto make = [](std::string_view it) { return std::make_unique<std::string>(it); };
+    ferretgold::warm(to, path.c_str(), make, &loaded);
+    EXPECT(loaded.entries == 1);
+    std::remove(path.c_str());
+}
+#else
+void thrown_from_dumps(const std::string &) {}
+#endif
+
 } // namespace
 
 int main(int count, char **words) {
@@ -361,6 +447,8 @@ int main(int count, char **words) {
     by_functions();
     by_streams(words[1]);
     exceptions();
+    dumps(words[1] + std::string(".dump"));
+    thrown_from_dumps(words[1] + std::string(".dump"));
     EXPECT(heap_blocks == 0);
     return faults == 0 ? 0 : 1;
 }

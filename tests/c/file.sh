@@ -1,16 +1,19 @@
 #!/usr/bin/env bash
 # Tests caches that go to files and come from them, of bytes and of objects: rows, damage, what fails,
-# mutated files; from C++ and from Rust, also where streams fail and functions throw or panic; C and C++ also under
-# AddressSanitizer and UndefinedBehaviorSanitizer; and a script that reads and writes the format by
-# its description alone. It wants crates/hcc_c/out/libhcc_c.a, as `rt lib` in crates/hcc_c makes it,
-# and skips where there is no xxhash.h.
-# Usage: tests/c/file.sh [FILES]     of mutated ones in each program: 100,000 by default
+# mutated files, which entries come in, and in how much memory, programs that are killed while they dump;
+# from C++ and from Rust, also where streams fail and functions throw or panic; C and C++ also under
+# AddressSanitizer and UndefinedBehaviorSanitizer; and a script that reads and writes the format by its
+# description alone. It wants crates/hcc_c/out/libhcc_c.a, as `rt lib` in crates/hcc_c makes it, and skips
+# where there is no xxhash.h.
+# Usage: tests/c/file.sh [FILES [ENTRIES]]
+#            mutated files in each program, 100,000 by default, and entries of one file, 10,000,000
 set -u
 cd "$(dirname "$0")/../.." || exit 2
 . tests/shared.sh
 wants_library file
 
 files=${1:-100000}
+many=${2:-10000000}
 program=("$folder/file")
 wrap=-Wl,--wrap=malloc,--wrap=realloc,--wrap=aligned_alloc,--wrap=free,--wrap=getrandom
 
@@ -54,12 +57,19 @@ in_rust() {
 
 # All of it, with sanitizers if they are named.
 tries_all() {
+    local entries=$((${#1} > 0 ? many / 10 : many))
     checks=(${1:+-fsanitize="$1" -fno-sanitize-recover=all})
     tries "the library, $1" library "$1"
     tries "building, $1" builds file cc -std=c11 tests/c/file.c tests/c/heap.c "$wrap"
     tries "building for objects, $1" builds objects cc -std=c11 tests/c/object_file.c tests/c/heap.c "$wrap"
+    tries "building for what is chosen, $1" builds chosen cc -std=c11 tests/c/chosen.c tests/c/heap.c "$wrap"
     tries "rows, $1" "${program[@]}" rows
+    tries "rows of what is chosen, $1" "$folder/chosen" rows
+    tries "many entries into few slots, $1" "$folder/chosen" many "$entries"
     tries "rows of objects, $1" "$folder/objects" rows
+    tries "building for dumps, $1" builds dumps cc -std=c11 tests/c/object_dump.c
+    tries "rows of dumps, $1" "$folder/dumps" rows
+    tries "programs that are killed, $1" "$folder/dumps" killed 100
     tries "mutated files, $1" "${program[@]}" fuzz "$files" 1
     tries "the format, $1" is_as_described "${program[@]}" 19 1
     tries "the format of objects, $1" is_as_described "$folder/objects" 11 2

@@ -30,7 +30,7 @@ typedef struct image {
     size_t calls_left; /* how many calls are met before one fails */
 } image;
 
-static bool write_image(void *context, const void *bytes, size_t count) {
+static inline bool write_image(void *context, const void *bytes, size_t count) {
     image *to = context;
     EXPECT(count > 0, true);
     if (to->calls_left-- == 0 || count > MOST_FILE - to->length) {
@@ -41,7 +41,7 @@ static bool write_image(void *context, const void *bytes, size_t count) {
     return true;
 }
 
-static size_t read_image(void *context, void *bytes, size_t count, bool *could) {
+static inline size_t read_image(void *context, void *bytes, size_t count, bool *could) {
     image *from = context;
     const size_t rest = from->length - from->at;
     const size_t read = count < rest ? count : rest;
@@ -56,7 +56,7 @@ static size_t read_image(void *context, void *bytes, size_t count, bool *could) 
 
 /* ---- Numbers, the lowest byte first ---------------------------------------------------------- */
 
-static uint64_t number_at(const uint8_t *bytes, size_t count) {
+static inline uint64_t number_at(const uint8_t *bytes, size_t count) {
     uint64_t number = 0;
     for (size_t at = 0; at < count; at++) {
         number += (uint64_t)bytes[at] << 8 * at;
@@ -64,7 +64,7 @@ static uint64_t number_at(const uint8_t *bytes, size_t count) {
     return number;
 }
 
-static void set_number(uint8_t *bytes, size_t count, uint64_t number) {
+static inline void set_number(uint8_t *bytes, size_t count, uint64_t number) {
     for (size_t at = 0; at < count; at++) {
         bytes[at] = (uint8_t)(number >> 8 * at);
     }

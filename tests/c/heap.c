@@ -1,4 +1,5 @@
-/* Counts what the library allocates, and what it draws by getrandom. A program with it is linked with
+/* Counts what the library allocates, sees that nothing writes behind a block, and counts what it draws by
+ * getrandom. A program with it is linked with
  * -Wl,--wrap=malloc,--wrap=realloc,--wrap=aligned_alloc,--wrap=free,--wrap=getrandom. */
 #include "heap.h"
 
@@ -8,10 +9,19 @@
 #include <string.h>
 #include <sys/random.h>
 
-enum { PLACES = 1 << 14 };
+enum { PLACES = 1 << 18 };
+
+/* How many bytes tell whether something wrote behind a block: none where a sanitizer tells it. */
+#ifdef __SANITIZE_ADDRESS__
+enum { BEHIND = 0 };
+#else
+enum { BEHIND = 16 };
+#endif
+static const char stands_behind[16] = "nothing is here";
 
 size_t heap_blocks = 0;
 size_t heap_bytes = 0;
+size_t heap_most = 0;
 size_t heap_left = SIZE_MAX;
 int heap_once = 0;
 int draws_left = -1;
@@ -47,8 +57,10 @@ static struct block *place_of(void *at) {
 static void *counted(void *at, size_t size) {
     if (at != NULL) {
         *place_of(at) = (struct block){at, size};
+        memcpy((char *)at + size, stands_behind, BEHIND);
         heap_blocks += 1;
         heap_bytes += size;
+        heap_most = heap_bytes > heap_most ? heap_bytes : heap_most;
     }
     return at;
 }
@@ -69,7 +81,7 @@ static void uncount(void *at) {
         return;
     }
     struct block *it = place_of(at);
-    if (it->at == NULL) {
+    if (it->at == NULL || memcmp((char *)at + it->size, stands_behind, BEHIND) != 0) {
         abort();
     }
     heap_blocks -= 1;
@@ -93,7 +105,7 @@ size_t heap_large(void) {
 }
 
 void *__wrap_malloc(size_t size) {
-    return refuses() ? NULL : counted(__real_malloc(size), size);
+    return refuses() ? NULL : counted(__real_malloc(size + BEHIND), size);
 }
 
 void *__wrap_realloc(void *at, size_t size) {
@@ -101,11 +113,11 @@ void *__wrap_realloc(void *at, size_t size) {
         return NULL;
     }
     uncount(at);
-    return counted(__real_realloc(at, size), size);
+    return counted(__real_realloc(at, size + BEHIND), size);
 }
 
 void *__wrap_aligned_alloc(size_t alignment, size_t size) {
-    return refuses() ? NULL : counted(__real_aligned_alloc(alignment, size), size);
+    return refuses() ? NULL : counted(__real_aligned_alloc(alignment, size + BEHIND), size);
 }
 
 void __wrap_free(void *at) {

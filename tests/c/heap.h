@@ -11,6 +11,7 @@ extern "C" {
 
 extern size_t heap_blocks; /* allocated and not freed */
 extern size_t heap_bytes;  /* of these */
+extern size_t heap_most;   /* of these at once, since it was last set */
 extern size_t heap_left;   /* how many requests are met before one is refused */
 extern int heap_once;      /* whether those behind that one are met */
 

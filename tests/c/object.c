@@ -620,6 +620,7 @@ int main(int count, char **words) {
         object_bytes();
         object_seeds();
     }
+    object_walks();
     object_threads(count > 1 ? strtoul(words[count - 1], NULL, 10) : 1000000);
     printf("object: %lu faults\n", atomic_load(&object_faults));
     return atomic_load(&object_faults) != 0;

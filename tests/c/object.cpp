@@ -219,6 +219,21 @@ void temporaries() {
     EXPECT(lives.load(), 1);
 }
 
+// What a function of the key means is erased.
+void meant() {
+    blocks cache = opened(small_cache());
+    ferretgold_status why = FERRETGOLD_NULL;
+    unsigned asked = 0;
+    const auto is_odd = [&](const ferretgold_key &key) {
+        asked++;
+        return key.w0 % 2 == 1;
+    };
+    EXPECT(insert(cache, 1) + insert(cache, 2) + insert(cache, 3), FERRETGOLD_PLACED);
+    EXPECT(cache.erase_where(is_odd, why), 2);
+    EXPECT(why, FERRETGOLD_OK);
+    EXPECT(asked == 3 && lives == 1 && found(cache, 2)->number == 2, true);
+}
+
 // What is charged, what of it is held, and how many entries there are.
 void totals() {
     blocks cache = opened(small_cache());
@@ -229,6 +244,15 @@ void totals() {
     EXPECT(cache.pinned_usage(why), 5);
     EXPECT(cache.occupancy(why), 2);
     EXPECT(why, FERRETGOLD_OK);
+    const std::uint32_t clients = cache.config().clients;
+    std::uint64_t placed = 0;
+    for (std::uint32_t number = 0; number <= clients; number++) {
+        placed += cache.counts(number, why).placed;
+        EXPECT(why, FERRETGOLD_OK);
+    }
+    EXPECT(placed == 2 && cache.counts().placed == 2 && cache.counts().refused == 0, true);
+    (void)cache.counts(clients + 1, why);
+    EXPECT(why, FERRETGOLD_OUT_OF_RANGE);
 }
 
 // A cache that is none or was closed; one that can't be opened; null in place of an object.
@@ -311,6 +335,7 @@ void thrown() {
     EXPECT(cache.lookup(key_of(1)).ref().get() == it.get(), true);
     EXPECT(!cache.lookup(key_of(2)), true);
     EXPECT(cache.erase(key_of(1)), 1);
+    EXPECT(cache.erase_where([](const ferretgold_key &) { return true; }), 0);
     EXPECT(!cache.pin_at(0, 8), true);
     EXPECT(why([] { (void)holding().ref(); }), FERRETGOLD_NULL);
 }
@@ -566,6 +591,7 @@ int main(int count, char **words) {
         try_row(it, true);
     }
     temporaries();
+    meant();
     totals();
     none();
     seeded();

@@ -2,7 +2,7 @@
  * length, files whose checksums are right and which no save writes, calls of the caller's and requests
  * for memory that fail, and threads that insert and erase meanwhile. Linked with heap.c.
  * Usage: object_file rows | object_file save PATH | object_file load PATH */
-enum { MOST_FILE = 1 << 20 };
+enum { MOST_FILE = 1 << 22 };
 
 #include "ferretgold_file.h"
 #include "file_image.h"
@@ -17,7 +17,7 @@ enum { MOST_FILE = 1 << 20 };
 
 enum {
     ENTRIES = 12, GONE = 3, NUMBER_KIND = 0xabcd, NUMBER_CHARGE = 0x12345678, LONGEST = 300000, SUM = 8,
-    ENOUGH = 400, /* calls or requests */
+    MANY = 70000, ENOUGH = 400, /* calls or requests */
     THREADS = 4, OPERATIONS = 30000
 };
 
@@ -236,6 +236,7 @@ static size_t as_described(const image *file) {
 /* Fields that no save writes, under checksums that are right. `end` is where the end stands. */
 static void otherwise_sealed(const image *file, size_t end) {
     static image other;
+    const uint64_t first = number_at(file->bytes + BEGIN + 24, 8);
     const struct {
         size_t at, count;
         uint64_t number;
@@ -252,12 +253,14 @@ static void otherwise_sealed(const image *file, size_t end) {
         {BEGIN + 22, 2, 1, FERRETGOLD_FILE_DAMAGED, 0},
         {BEGIN + 24, 8, UINT64_MAX, FERRETGOLD_FILE_DAMAGED, 0},
         {BEGIN + 24, 8, UINT64_C(1) << 62, FERRETGOLD_FILE_DAMAGED, 0},
+        {BEGIN + 24, 8, first + (UINT64_C(1) << 32), FERRETGOLD_FILE_DAMAGED, 0},
         {end, 8, 1, FERRETGOLD_FILE_DAMAGED, ENTRIES - 1},
         {end + 8, 8, 1, FERRETGOLD_FILE_DAMAGED, ENTRIES - 1},
         {end + 20, 2, 1, FERRETGOLD_FILE_DAMAGED, ENTRIES - 1},
         {end + 22, 2, 1, FERRETGOLD_FILE_DAMAGED, ENTRIES - 1},
         {end + 24, 8, ENTRIES, FERRETGOLD_FILE_DAMAGED, ENTRIES - 1},
         {end + 24, 8, ENTRIES - 2, FERRETGOLD_FILE_DAMAGED, ENTRIES - 1},
+        {end + 24, 8, (UINT64_C(1) << 32) + ENTRIES - 1, FERRETGOLD_FILE_DAMAGED, ENTRIES - 1},
     };
     for (size_t row = 0; row < sizeof rows / sizeof *rows; row++) {
         const ferretgold_object_config config = config_of(2, 32, 1000);
@@ -312,6 +315,36 @@ static void failing(image *file) {
         closed(cache);
     }
     EXPECT(loaded.left, ENTRIES - 1);
+}
+
+/* Makes nothing: counts, and looks whether it is the next object. */
+static bool count_one(void *context, const ferretgold_object_saved *it) {
+    uint64_t *count = context;
+    *count += 1;
+    return it->length == 0;
+}
+
+/* More objects than two bytes count, each under its number; they are saved from one cache. */
+static void numbered(image *file) {
+    const ferretgold_object_config config = config_of(2, 1 << 16, 2 * MANY);
+    ferretgold_object_cache *cache = opened(&config);
+    ferretgold_loaded loaded = {0, 0, 0};
+    uint64_t saved = 0, count = 0;
+    for (uint64_t it = 0; it < MANY; it++) {
+        const ferretgold_key key = {it, it};
+        EXPECT(ferretgold_object_insert_bytes(cache, &key, NULL, 0, 1, FERRETGOLD_LOW, NULL), FERRETGOLD_OK);
+    }
+    file->length = file->at = 0;
+    EXPECT(ferretgold_object_save(cache, NULL, NULL, NULL, write_image, file, &saved), FERRETGOLD_FILE_OK);
+    EXPECT(saved, MANY);
+    for (uint64_t number = 1; number <= MANY; number++) {
+        const uint8_t *head = file->bytes + BEGIN + (number - 1) * (HEAD + SUM);
+        EXPECT(number_at(head + HEAD - SUM, SUM), XXH64(head, HEAD - SUM, number));
+        EXPECT(number_at(head + HEAD, SUM), XXH64(head, 0, number));
+    }
+    EXPECT(ferretgold_object_load(read_image, file, count_one, &count, &loaded), FERRETGOLD_FILE_OK);
+    EXPECT(count == MANY && loaded.entries == MANY && loaded.left == MANY && loaded.lost == 0, true);
+    closed(cache);
 }
 
 /* ---- Objects of the caller's ----------------------------------------------------------------- */
@@ -496,6 +529,7 @@ static void rows(void) {
     of_a_kind(&other);
     busy(&other);
     beside_threads(&other);
+    numbered(&other);
     of_other_versions(&file);
 }
 

@@ -536,14 +536,16 @@ uint32_t ferretgold_raw_object_release(ferretgold_object *it, const ferretgold_h
 }
 
 uint32_t ferretgold_raw_object_take_gone(ferretgold_object *it, ferretgold_key *key,
-                                         ferretgold_object_value *value) {
+                                         ferretgold_object_value *value, std::size_t *left) {
     std::vector<object> &gone = client_of(it).list.gone;
+    *left = 0;
     if (gone.empty()) {
         return FERRETGOLD_MISS;
     }
     *key = gone.back().key;
     *value = gone.back().value;
     gone.pop_back();
+    *left = gone.size();
     return FERRETGOLD_OK;
 }
 

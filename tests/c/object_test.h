@@ -27,6 +27,9 @@ void object_bytes(void);
 /* Seeds, and what is drawn. */
 void object_seeds(void);
 
+/* Walks, alone and while others insert and erase. */
+void object_walks(void);
+
 /* What several do: so many operations of all. */
 void object_threads(unsigned long operations);
 

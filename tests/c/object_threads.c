@@ -604,7 +604,8 @@ static void at_once(uint32_t clients, uint32_t handles, bool strict, unsigned lo
     }
     finish(&sum, objects, each * THREADS);
     EXPECT(heap_blocks, blocks);
-    EXPECT(sum.elsewhere > 0 && sum.refused > 0 && sum.alone > 0, true);
+    /* A few operations may go without one of these. */
+    EXPECT(operations < 100000 || (sum.elsewhere > 0 && sum.refused > 0 && sum.alone > 0), true);
     printf("object: %u clients of %u handles, strict %d: %lu were the cache's, %lu of them stood "
            "alone, %lu were refused, %lu handles given back elsewhere\n", clients, handles, strict,
            sum.inserted, sum.alone, sum.refused, sum.elsewhere);

@@ -87,7 +87,8 @@ static void erase(worker *it) {
 static void takes_all(worker *it) {
     ferretgold_key key;
     ferretgold_object_value value;
-    while (ferretgold_raw_object_take_gone(&it->client, &key, &value) == FERRETGOLD_OK) {
+    size_t left;
+    while (ferretgold_raw_object_take_gone(&it->client, &key, &value, &left) == FERRETGOLD_OK) {
         handed_back(it, &key, &value);
         if (drawn(it, 8) == 0) {
             erase(it);

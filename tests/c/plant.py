@@ -5,9 +5,9 @@ time: two arguments of a call are exchanged, two assigned values, two enumerator
 negated; an operator is another one, and what is added or subtracted is not; a statement is dropped, and
 each call that releases or closes. No call is inline here. What they don't see of src/ferretgold.c and of
 ferretgold_inline.h is tried again by threads that borrow clients, tests/c/pool.c, and in the checking
-library, by which tests/c/entered.c has to end as it should. Bugs in src/file.c and ferretgold_file.hpp
-are those that tests/c/file.c and tests/c/file.cpp have to see; where there is no xxhash.h, they are
-skipped. In the C of the header for objects a few functions have bugs, which the rows of tests/c/object.c
+library, by which tests/c/entered.c has to end as it should. Bugs in src/file.c, src/chosen.c,
+src/object_file.c and ferretgold_file.hpp are those that the tests of these names have to see; where there
+is no xxhash.h, they are skipped. In the C of the header for objects a few functions have bugs, which the rows of tests/c/object.c
 have to see. What a compiler refuses is no bug that one could ship. Bugs that change nothing stand in
 tests/c/equivalents, each with its reason; it fails too where one of them is seen, or isn't planted. So
 do those that threads see by chance, which may be seen.
@@ -28,24 +28,27 @@ from pathlib import Path
 
 TOP = Path(__file__).resolve().parent.parent.parent
 # What is compiled into the library.
-OBJECTS = [f"src/{it}.c" for it in ("ferretgold", "closed", "drawing", "heap", "image", "sizes")]
+OBJECTS = [f"src/{it}.c" for it in ("ferretgold", "closed", "counts", "drawing", "heap", "image", "sizes")]
 # What is compiled only where there is xxhash.h.
-SAVES = ["src/file.c", "src/object_file.c", "include/ferretgold_file.hpp"]
-HANDS = [f"src/object{it}.c" for it in ("", "_bytes", "_clients", "_opening", "_queue")]
+SAVED = ["file", "chosen", "object_file", "object_dump"]  # each with a test of that name
+SAVES = [*(f"src/{it}.c" for it in SAVED), "include/ferretgold_file.hpp"]
+HANDS = [f"src/object{it}.c" for it in ("", "_bytes", "_clients", "_counts", "_opening", "_queue", "_walk")]
 FILES = ["include/ferretgold.h", "include/ferretgold_inline.h", "include/ferretgold.hpp", *OBJECTS, *SAVES, *HANDS]
-APART = {*SAVES, *HANDS}  # what no trace shows
+STORE = "tests/c/object_store.cpp"
+APART = {*SAVES, *HANDS, STORE}  # what no trace shows
 # The functions with bugs, in files of which not all have them.
 CHOSEN = {"src/object.c": "shown shown_by ferretgold_object_ref unpin take_back ferretgold_object_erase told".split(),
-          **{it: [] for it in HANDS[1:]}}
+          **{it: [] for it in HANDS[1:-1]}}
 CALLS = {"include/ferretgold_inline.h", "src/ferretgold.c"}  # where the checking library differs
 HEADERS = ["include/ferretgold_raw.h", "include/ferretgold_closed.h", "include/ferretgold_object.h",
-           "include/ferretgold_file.h", "include/ferretgold_image.h",
-           "src/closed.h", "src/file.h", "src/heap.h", "src/limits.h", "src/object.h", "src/opening.h"]
+           "include/ferretgold_file.h", "include/ferretgold_image.h", "include/ferretgold_object.hpp",
+           "src/chosen.h", "src/closed.h", "src/counts.h", "src/file.h", "src/heap.h", "src/limits.h", "src/object.h",
+           "src/opening.h", "src/walk.h"]
 CHANCE = "by chance: "
-PLAYS = [f"tests/c/{it}.c" for it in ("play", "edges", "seeds", "budgets", "closed", "image")]
+PLAYS = [f"tests/c/{it}.c" for it in ("play", "edges", "counted", "seeds", "budgets", "closed", "image")]
 CPP = ["tests/c/play.cpp", "tests/c/closed.cpp"]
 STREAMS = ["tests/c/file.cpp"]
-HANDED = [f"tests/c/object{it}.c" for it in ("", "_bytes", "_opening", "_seeds", "_threads")]
+HANDED = [f"tests/c/object{it}.c" for it in ("", "_bytes", "_opening", "_seeds", "_threads", "_walk")]
 PROVED = TOP / "crates/hcc_c/out/libhcc_c.a"
 WRAP = "-Wl,--wrap=malloc,--wrap=realloc,--wrap=aligned_alloc,--wrap=free,--wrap=getrandom"
 MET = "ferretgold: two threads use client 0 at once: ferretgold_usage and ferretgold_insert_pinned\n"
@@ -56,6 +59,17 @@ NUMBERS = {"bool", "uint32_t", "uint64_t", "size_t", "ferretgold_priority"}
 # Operators, each with the one that a bug has in its place.
 OTHERS = dict(zip("+ - * / % & | ^ << >> < > <= >= += -= *= /= %= &= |= ^= <<= >>=".split(),
                   "- + + * / | & | >> << <= >= < > -= += += *= /= |= &= |= >>= <<=".split()))
+
+# What threads have to see of a store, 2 times of 100: the function, the bug, what stands there, and what a bug
+# writes in its place.
+SOMETIMES = "[] { static std::atomic<unsigned> calls{0}; return calls++ % 50 == 0; }()"
+SHARED = [
+    ("find", "gives up behind its first look", "slots_[at].displacement == 0",
+     f"slots_[at].displacement == 0 || (n == 0 && {SOMETIMES})"),
+    ("erase", "leaves out a probe", "hold(at)", "n != 1 && hold(at)"),
+    ("place", "hides what it placed", "return placing::PLACED;",
+     f"slots_[at].meta &= {SOMETIMES} ? HIDES : ~uint64_t{{0}}; return placing::PLACED;"),
+]
 
 # A bug: the file, the function, what is written for what, the file's text with it, and whether only the
 # checking library has the function.
@@ -297,6 +311,15 @@ class Planter:
         return self.bugs
 
 
+def shared():
+    """The bugs of a store that threads share."""
+    text = (TOP / STORE).read_text(encoding="utf-8")
+    bodies = {name: (begin, end) for name, _, begin, end in functions(blanked(text))}
+    for function, change, old, new in SHARED:
+        at = text.index(old, *bodies[function])
+        yield Bug(STORE, function, change, text[:at] + new + text[at + len(old):], False)
+
+
 # ---- Trying them ---------------------------------------------------------------------------------
 
 class Trials:
@@ -305,12 +328,13 @@ class Trials:
     def __init__(self, folder, files, patient):
         self.folder, self.patient = Path(folder), patient
         self.libraries = [PROVED, "-pthread", WRAP]
-        self.least = [*map(self.object, ("src/drawing.c", "src/heap.c", "src/sizes.c")), PROVED, "-pthread"]
+        self.least = [*map(self.object, ("src/counts.c", "src/drawing.c", "src/heap.c", "src/sizes.c")), PROVED,
+                      "-pthread"]
         std = "".join((TOP / it).read_text("utf-8") for it in (*CPP, *STREAMS, *FILES) if it.endswith("pp"))
         (self.folder / "std.hpp").write_text("\n".join(re.findall(r"#include <.*>", std)), encoding="utf-8")
         if any(it.endswith(".hpp") for it in files):
             subprocess.run(["c++", "-std=c++17", *WARN, "-x", "c++-header", self.folder / "std.hpp"], check=True)
-        saving = ["tests/c/file.c", "tests/c/object_file.c", *SAVES[:2]] if files & set(SAVES) else []
+        saving = [f"{it}/{name}.c" for it in ("tests/c", "src") for name in SAVED] if files & set(SAVES) else []
         for file in (*PLAYS, *HANDED, "tests/c/heap.c", *OBJECTS, *HANDS, *saving):
             self.compiled(TOP, *WARN, "-c", TOP / file, "-o", self.object(file))
 
@@ -328,11 +352,13 @@ class Trials:
         words = [*WARN, f"-I{here}/include", "-o", here / "play", self.object("tests/c/heap.c")]
         plays = [*map(self.object, PLAYS)]
         if bug.file.endswith(".hpp"):
-            tests, library = (STREAMS, [*OBJECTS, *HANDS, *SAVES[:2]]) if bug.file in SAVES else (CPP, OBJECTS)
+            tests, library = (STREAMS, [*OBJECTS, *HANDS, *SAVES[:-1]]) if bug.file in SAVES else (CPP, OBJECTS)
             return ["c++", "-std=c++17", "-include", self.folder / "std.hpp", *words, *(TOP / it for it in tests),
                     *map(self.object, library), *self.libraries]
         if bug.file.endswith(".h"):
             plays = [TOP / it for it in PLAYS]
+        if bug.file == STORE:
+            return ["c++", "-std=c++17", "-O1", *WARN, f"-I{here}/include", "-c", here / STORE, "-o", here / "apart.o"]
         if bug.file in APART:
             return ["cc", "-std=c11", *WARN, f"-I{here}/include", "-c", here / bug.file, "-o", here / "apart.o"]
         checks = ["-DFERRETGOLD_CHECK"] if bug.checks else []
@@ -341,6 +367,7 @@ class Trials:
 
     def tests_of(self, bug):
         """The tests that may see a bug, the quickest first."""
+        yield from [self.shares] * (bug.file == STORE)
         yield from [self.passes] * (bug.file not in APART)
         yield from [self.meets] * (bug.file not in APART and bug.checks)
         yield from [self.saves] * (bug.file in SAVES)
@@ -350,7 +377,7 @@ class Trials:
     def try_it(self, number, bug):
         """What becomes of a bug, or of a file as it is: refused by the compiler, seen, or not."""
         here = self.folder / str(number)
-        for file in [*FILES, *HEADERS]:
+        for file in [*FILES, *HEADERS, STORE]:
             (here / file).parent.mkdir(parents=True, exist_ok=True)
             shutil.copy(TOP / file, here / file)
         (here / bug.file).write_text(bug.text, encoding="utf-8")
@@ -383,11 +410,10 @@ class Trials:
         """Whether caches are saved and loaded as they should be."""
         if bug.file.endswith(".hpp"):
             return self.ends(bug, 10, [here / "play", here / "streamed"])[0]
-        tests = ["tests/c/file.c", "tests/c/object_file.c"]
-        for test in tests[tests.index(bug.file.replace("src", "tests/c")):]:
+        for name in sorted(SAVED, key=lambda it: it != Path(bug.file).stem):
             library = (here / "apart.o" if it == bug.file else self.object(it)
-                       for it in (*OBJECTS, *HANDS, *SAVES[:2]))
-            parts = map(self.object, (test, "tests/c/heap.c"))
+                       for it in (*OBJECTS, *HANDS, *SAVES[:-1]))
+            parts = map(self.object, (f"tests/c/{name}.c", "tests/c/heap.c"))
             self.compiled(here, "-o", here / "saves", *parts, *library, *self.libraries)
             if not self.ends(bug, 20, [here / "saves", "rows"])[0]:
                 return False
@@ -399,6 +425,12 @@ class Trials:
         parts = map(self.object, (*HANDED, "tests/c/heap.c"))
         self.compiled(here, "-o", here / "object", *parts, *library, *self.libraries)
         return self.ends(bug, 20, [here / "object", "1000"])[0]
+
+    def shares(self, here, bug):
+        """Whether threads find what is there in a store that they share."""
+        parts = TOP / "tests/c/promises.c", here / "apart.o", *map(self.object, (*OBJECTS, *HANDS))
+        self.compiled(here, "-O2", "-o", here / "shares", *parts, PROVED, "-pthread", "-lstdc++", "-Wl,-z,muldefs")
+        return self.ends(bug, 20, [here / "shares", "1000000"])[0]
 
     def meets(self, here, bug):
         """Whether two calls in one client end the program as they should."""
@@ -440,11 +472,10 @@ def main():
     words.add_argument("--jobs", type=int, default=os.cpu_count())
     words = words.parse_args()
     files, named = planted(), {}
-    for file in files:
-        for it in Planter(file).all():
-            name = f"{os.path.basename(file)} {it.function}: {it.change}"
-            if words.only in name:
-                named[name] = it
+    for it in (*itertools.chain(*(Planter(file).all() for file in files)), *shared()):
+        name = f"{os.path.basename(it.file)} {it.function}: {it.change}"
+        if words.only in name:
+            named[name] = it
     if words.list:
         print("\n".join(named))
         return False

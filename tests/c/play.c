@@ -1,6 +1,6 @@
 /* Plays traces of calls through ferretgold.h alone, and compares each answer with the one recorded
- * beside its call; then tries what no trace shows (edges.c, seeds.c, budgets.c, closed.c, image.c). It is what
- * tests/c/plant.py tries planted bugs by.
+ * beside its call; then tries what no trace shows (edges.c, counted.c, seeds.c, budgets.c, closed.c,
+ * image.c). It is what tests/c/plant.py tries planted bugs by.
  * Usage: play FILE.. where a file has cases as tests/program/calls has, and a letter more:
  *     c T k0 k1 U|N n     reads a key's value to a buffer of n bytes: value V, short LENGTH, miss
  */
@@ -74,11 +74,20 @@ static void say_value(char *out, const unsigned char *bytes, size_t length) {
     }
 }
 
-/* The words of an entry, from its key on: key, charge, priority, value. */
+/* How many insertions of a client met their key. */
+static uint64_t met_by(ferretgold_client *it) {
+    ferretgold_stats stats;
+    EXPECT(ferretgold_statistics(it, &stats), 0);
+    return stats.boosts;
+}
+
+/* The words of an entry, from its key on: key, charge, priority, value. A trace says that one which met
+ * its key is dropped. */
 static void insert(ferretgold_client *it, place *into, char **words, char *out) {
     static const char *const came[] = {[FERRETGOLD_PLACED] = "placed",
                                        [FERRETGOLD_DROPPED] = "dropped",
-                                       [FERRETGOLD_STANDALONE] = "standalone"};
+                                       [FERRETGOLD_STANDALONE] = "standalone",
+                                       [FERRETGOLD_THERE] = "dropped"};
     unsigned char bytes[BYTES] = {0};
     ferretgold_key key = key_of(words);
     const uint32_t charge = (uint32_t)number(words[2]);
@@ -86,6 +95,7 @@ static void insert(ferretgold_client *it, place *into, char **words, char *out) 
     const void *value = length == 0 ? NULL : bytes;
     const uint64_t left = ferretgold_serials_left(it);
     const uint32_t held = ferretgold_held(it);
+    const uint64_t met = met_by(it);
     ferretgold_inserted inserted = (ferretgold_inserted)7;
     ferretgold_handle handle = {0, 77, 0, 0};
     ferretgold_status status =
@@ -94,7 +104,8 @@ static void insert(ferretgold_client *it, place *into, char **words, char *out) 
                      : ferretgold_insert_pinned(it, &key, value, length, charge,
                                                 priority_of(words[3]), &inserted, &handle);
     if (status == 0) {
-        sprintf(out, "%s", (int)inserted < 3 ? came[inserted] : "?");
+        sprintf(out, "%s", (int)inserted < 4 ? came[inserted] : "?");
+        EXPECT(inserted == FERRETGOLD_THERE, into == NULL && met_by(it) > met);
         EXPECT(left - ferretgold_serials_left(it), 1);
     } else {
         sprintf(out, "refused %s", refusal_of(status));
@@ -357,6 +368,7 @@ static void play_file(const char *path) {
 
 int main(int count, char **files) {
     edges();
+    counted();
     seeds();
     budgets();
     closed_caches();

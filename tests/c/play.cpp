@@ -67,7 +67,8 @@ namespace {
 
 // ---- Traces ------------------------------------------------------------------------------------
 
-const char *const CAME[] = {"placed", "dropped", "standalone"};
+// A trace says of an insertion that met its key that it is dropped.
+const char *const CAME[] = {"placed", "dropped", "standalone", "dropped"};
 
 std::string refusal(int status) {
     static const char *const names[] = {"HandlesFull", "Spent", "TooLarge", "CapacityFull",

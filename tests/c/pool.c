@@ -12,7 +12,7 @@ enum { THREADS = 8, MOST_CLIENTS = 1024 };
 
 static ferretgold_cache *cache;
 static atomic_uint owners[MOST_CLIENTS];
-static atomic_ulong faults, refused, readings;
+static atomic_ulong faults, refused, readings; /* that began */
 static unsigned long each;
 
 static void must(int is) {
@@ -33,8 +33,8 @@ static void use(ferretgold_client *client, uint64_t number) {
     const ferretgold_key key = {1, number % 100};
     uint64_t value = key.w1;
     size_t length = 0;
-    ferretgold_status status = ferretgold_get(client, &key, &value, sizeof value, true, &length);
     atomic_fetch_add(&readings, 1);
+    ferretgold_status status = ferretgold_get(client, &key, &value, sizeof value, true, &length);
     must(status == FERRETGOLD_OK ? length == sizeof value && value == key.w1
                                  : status == FERRETGOLD_MISS);
     if (status == FERRETGOLD_MISS) {

@@ -5,6 +5,7 @@
 
 #include <rocksdb/db.h>
 #include <rocksdb/filter_policy.h>
+#include <rocksdb/statistics.h>
 #include <rocksdb/table.h>
 
 #include <cstdio>
@@ -631,6 +632,17 @@ void read_while_compacting(rocksdb::DB &db) {
     }
 }
 
+// Since the database was opened the cache counted what RocksDB did itself. RocksDB's ticker of additions
+// leaves out some.
+void counts_as(const rocksdb::Statistics &tickers, const ferretgold_counts &before,
+               const ferretgold_counts &it) {
+    EXPECT(it.hits - before.hits, tickers.getTickerCount(rocksdb::BLOCK_CACHE_HIT));
+    EXPECT(it.misses - before.misses, tickers.getTickerCount(rocksdb::BLOCK_CACHE_MISS));
+    EXPECT(it.placed + it.dropped + it.standalone >= tickers.getTickerCount(rocksdb::BLOCK_CACHE_ADD), true);
+    EXPECT(it.refused, tickers.getTickerCount(rocksdb::BLOCK_CACHE_ADD_FAILURES));
+    EXPECT(it.hits > 0 && it.misses > 0 && it.placed > 0, true);
+}
+
 // Some 4 MB are read through a cache of a tenth of that, with index and filter blocks.
 void database(const std::string &folder, bool is_strict) {
     rocksdb::BlockBasedTableOptions table;
@@ -643,6 +655,7 @@ void database(const std::string &folder, bool is_strict) {
     all.create_if_missing = true;
     all.write_buffer_size = 1 << 20;
     all.table_factory.reset(rocksdb::NewBlockBasedTableFactory(table));
+    all.statistics = rocksdb::CreateDBStatistics();
     rocksdb::DB *opened = nullptr;
     EXPECT(rocksdb::DestroyDB(folder, all).ok(), true);
     if (!rocksdb::DB::Open(all, folder, &opened).ok()) {
@@ -650,6 +663,7 @@ void database(const std::string &folder, bool is_strict) {
         return;
     }
     std::unique_ptr<rocksdb::DB> db(opened);
+    const ferretgold_counts before = ferretgold::counts_of(*cache);
     for (std::uint32_t number = 0; number < KEYS; number++) {
         EXPECT(db->Put(rocksdb::WriteOptions(), row_of(number), content_of(number)).ok(), true);
     }
@@ -657,6 +671,7 @@ void database(const std::string &folder, bool is_strict) {
     read_while_compacting(*db);
     EXPECT(cache->GetOccupancyCount() > 30 && cache->GetUsage() <= 400 << 10, true);
     db.reset();
+    counts_as(*all.statistics, before, ferretgold::counts_of(*cache));
     cache->EraseUnRefEntries();
     EXPECT(cache->GetOccupancyCount(), 0);
 }

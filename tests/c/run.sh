@@ -1,11 +1,11 @@
 #!/usr/bin/env bash
 # Builds the library and the examples for C, C++ and Rust, and runs them: the misuses that the
 # header names among them, C with each request for memory refused; plays traces of calls through the
-# headers; lets threads borrow clients, read values that others replace, and hand objects back, by the
-# proved calls, by the header for objects and by the Rust crate; and all of it again with the C file under
-# AddressSanitizer and UndefinedBehaviorSanitizer, the threads under ThreadSanitizer. It wants
-# crates/hcc_c/out/libhcc_c.a, as `rt lib` in crates/hcc_c makes it, and fails where a compiler is
-# missing.
+# headers; lets threads borrow clients, read values that others replace, find what they know to be there,
+# and hand objects back, by the proved calls, by the header for objects and by the Rust crate; and all of it
+# again with the C file under AddressSanitizer and UndefinedBehaviorSanitizer, the threads under
+# ThreadSanitizer. It wants crates/hcc_c/out/libhcc_c.a, as `rt lib` in crates/hcc_c makes it, and fails
+# where a compiler is missing.
 # Usage: tests/c/run.sh [READS]     of values that others replace: 4,000,000 by default
 set -u
 cd "$(dirname "$0")/../.." || exit 2
@@ -30,6 +30,12 @@ builds_counting() {
     cc -std=c11 -c tests/c/heap.c -o "$folder/heap.o" && builds "${@:2}" "$folder/heap.o" "$1" "$wrap"
 }
 
+# What the example for Prometheus prints is what this reads, of 400 calls of ferretgold_get.
+is_measured() {
+    make -s -C examples BUILD="$folder/plain" c && "$folder/plain/metrics" > "$folder/metrics" \
+        && tests/c/metrics.py 400 < "$folder/metrics"
+}
+
 # Plays traces of calls through a header: plays LIBRARY WORD..
 plays() {
     builds_counting "$@" && "$folder/built" tests/program/calls tests/c/calls
@@ -45,12 +51,32 @@ reads() {
     builds cc -std=c11 "${@:3}" tests/c/readers.c "$2" && "$folder/built" "$1"
 }
 
+# Has threads look up what they know to be there or gone: knows OPERATIONS WORD..
+knows() {
+    builds cc -std=c11 tests/c/promises.c "${@:2}" && "$folder/built" "$1"
+}
+
+# The same where a sanitizer sees the steps of a cache of objects.
+knows_stepwise() {
+    knows "$@" -lstdc++
+}
+
+# Has two threads read what the calls of others come to: counts CALLS LIBRARY WORD..
+counts() {
+    builds cc -std=c11 "${@:3}" tests/c/counts.c "$2" && "$folder/built" "$1"
+}
+
+# The same of a cache of objects: counts_of_objects CALLS WORD..
+counts_of_objects() {
+    builds cc -std=c11 tests/c/object_counts.c "${@:2}" -lstdc++ && "$folder/built" "$1"
+}
+
 # Has threads hand objects back: hands OBJECTS LIBRARY WORD..
 hands() {
     builds_counting "$2" cc -std=c11 "${@:3}" tests/c/objects.c && "$folder/built" "$1"
 }
 
-of_objects=(tests/c/object{,_bytes,_opening,_seeds,_threads}.c)
+of_objects=(tests/c/object{,_bytes,_opening,_seeds,_threads,_walk}.c)
 
 # Makes the calls of ferretgold_object.h, so many by threads: objects OPERATIONS LIBRARY WORD..
 objects() {
@@ -121,7 +147,7 @@ is_ended() {
 # Both libraries have each function of the headers as a symbol, for a binding of another language.
 exports() {
     local library
-    sed 's/^ \*.*//' include/ferretgold.h include/ferretgold_object.h | grep -oE '\bferretgold_[a-z_]+\(' \
+    sed 's/^ \*.*//; /^typedef/d' include/ferretgold.h include/ferretgold_object.h | grep -oE '\bferretgold_[a-z_]+\(' \
         | tr -d '(' | sort -u > "$folder/declared"
     for library in src/out/libferretgold{,_check}.a; do
         nm -g --defined-only "$library" | sed -n 's/.* T //p' | sort > "$folder/defined"
@@ -225,13 +251,14 @@ in_rust='40000 squares are right, and the books agree with the slots
 
 wrap=-Wl,--wrap=malloc,--wrap=realloc,--wrap=aligned_alloc,--wrap=free,--wrap=getrandom
 library=src/out/libferretgold.a
-traces=(tests/c/{play,edges,seeds,budgets,closed,image}.c)
+traces=(tests/c/{play,edges,counted,seeds,budgets,closed,image}.c)
 met='ferretgold: two threads use client 0 at once: ferretgold_usage and ferretgold_insert_pinned'
 
 if command -v cc > /dev/null; then
     make -s -C src || exit 1
     tries "C" prints "$in_c" run-c
     tries "C, as make -C examples CFLAGS=-O1 compiles it" prints "$in_c" run-c CFLAGS=-O1
+    tries "counts for Prometheus" is_measured
     tries "traces in C" plays "$library" cc -std=c11 -O2 "${traces[@]}"
     tries "traces in C, no call inline" plays "$library" cc -std=c11 -O0 "${traces[@]}"
     tries "traces in C, checked" plays src/out/libferretgold_check.a \
@@ -240,6 +267,9 @@ if command -v cc > /dev/null; then
         tries "threads borrow $clients clients" lends $clients 10000000 "$library" -O2
     done
     tries "threads read what others replace" reads "${1:-4000000}" "$library" -O2
+    tries "threads find what is there" knows 1000000 -O2 "$library"
+    tries "counts of clients at work" counts 10000000 "$library" -O2
+    tries "counts of a cache of objects" counts_of_objects 2000000 -O2 "$library"
     tries "threads hand objects back" hands 15000000 "$library" -O2
     tries "the header for objects" objects 1000000 "$library" -O2
     tries "the header for objects, checked" owns 3 objects
@@ -256,9 +286,14 @@ if command -v cc > /dev/null; then
         library=$folder/sanitized/libferretgold.a
         tries "C, sanitized" prints "$in_c" run-c SANITIZE=address,undefined LIBRARY="$library"
         tries "traces in C, sanitized" plays "$library" cc -std=c11 "${sanitize[@]}" "${traces[@]}"
+        tries "threads find what is there, sanitized" knows 400000 -O1 "${sanitize[@]}" "$library"
+        tries "threads find what is there, each step sanitized" sees_steps_of knows_stepwise 200000
         tries "threads hand objects back, sanitized" hands 400000 "$library" -O1 "${sanitize[@]}"
         tries "the header for objects, sanitized" objects 400000 "$library" -O1 "${sanitize[@]}"
         tries "the header for objects, threads sanitized" sees_steps_of objects_of_threads 1000000
+        tries "counts of clients at work, threads sanitized" counts 1000000 \
+            "$folder/threads/libferretgold.a" -O1 -fsanitize=thread
+        tries "counts of a cache of objects, threads sanitized" sees_steps_of counts_of_objects 300000
         for clients in 3 70; do
             tries "threads borrow $clients clients, sanitized" lends $clients 400000 \
                 "$folder/threads/libferretgold.a" -O1 -fsanitize=thread

@@ -74,15 +74,15 @@ FUNCTION = re.compile(
 
 def owner_in(head):
     """The type whose functions an impl has, by its first line; of a trait's impl type and trait, as
-    rattle names them. None where it is no impl."""
+    rattle names them, which leaves the impl's own type parameters out. None where it is no impl."""
     found = re.match(r"(?:unsafe )?impl(?:<.*?>)? (?:(.*) for )?&?(?:'\w+ )?(\w+)", head)
     if not found:
         return None
-    of_one = re.match(r"impl (\w+)<(\w+)>", head)
+    of_one = re.match(r"impl (\w+)<(\w+)>(?! for )", head)
     if of_one:
         return f"{of_one[1]}+{of_one[2]}"
     trait = re.sub(r"'\w+", "", found[1] or "")
-    return found[2] + "".join(re.findall(r"\w+", trait))
+    return found[2] + "".join(re.findall(r"\w{2,}", trait))
 
 
 def module_of(path):

@@ -85,12 +85,13 @@ class Edit:
 
     def found_symbols(self):
         """The functions whose bodies the edit changes, as rattle names them; none where it changes
-        anything else. Imports beside a body, functions that it adds, and the functions' own proof files,
-        are nothing else. What a helper's impl says of its steps is in the functions that use it."""
+        anything else. A function's first line, imports beside a body, functions that it adds, and the
+        functions' own proof files, are nothing else. What a helper's impl says of its steps is in the
+        functions that use it."""
         found, now = [], dict(self.texts)
         for path, old, new in self.pairs:
             begin = now[path].index(old)
-            in_body = body_at(now[path], begin), body_at(now[path], begin + len(old) - 1)
+            in_body = [body_at(now[path], it, True) for it in (begin, begin + len(old) - 1)]
             line = now[path][now[path].rfind("\n", 0, begin) + 1 :].split("\n")[0]
             now[path] = now[path].replace(old, new)
             is_proof = any(f"/{it.replace('::', '/')}/" in path for it in found)

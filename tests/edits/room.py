@@ -19,14 +19,33 @@ FUNCTION = re.compile(r"fn (\S+): (.*)")
 NAMED = re.compile(r"\(`(\S+?)`\)")
 UNFOUND = re.compile(r"`search` did not prove (`.*)")
 IN_PROOF = re.compile(r"error: `(\S+?)`")
+LOOPS = "expected a measure"  # of a loop that an edit added, which need not end
 CALLED = re.compile(r"`\w+?::(\S+)`")
 
 
-class Room:
-    """Where a crate's edits are checked, over work that is kept from check to check."""
+def listing(folder):
+    """What tells whether a file of the folder was changed, lost or added."""
+    paths = [f"{at}/{name}" for at, _, names in os.walk(folder) for name in names]
+    return {it: (of.st_ino, of.st_size, of.st_mtime_ns) for it in paths for of in [os.stat(it)]}
 
-    def __init__(self, crate, folder, rlibs):
-        self.crate, self.folder, self.kept = crate, f"{folder}/crate", f"{folder}/kept"
+
+def linked(seed, kept):
+    """Copies a seed: what was proved by links, since a check replaces such a file and changes none."""
+    subprocess.run(["cp", "-al", seed, kept], check=True)
+    for at, _, names in os.walk(seed):
+        for name in names:
+            if not name.endswith(".oantt"):
+                to = f"{kept}{at.removeprefix(seed)}/{name}"
+                os.remove(to)
+                shutil.copy2(f"{at}/{name}", to)
+
+
+class Room:
+    """Where a crate's edits are checked, each over a copy of what a check of the crate without one kept,
+    the seed."""
+
+    def __init__(self, crate, folder, rlibs, seed):
+        self.crate, self.folder, self.seed = crate, f"{folder}/crate", seed
         self.words = crate.words(rlibs)
         for part in PARTS:
             if os.path.isdir(f"{crate.folder}/{part}"):
@@ -35,19 +54,25 @@ class Room:
 
     def check(self, texts, only=(), log=None):
         """Checks the crate with these texts in place of its own: the functions that are named, or all.
-        Gives the status, what was said, and the seconds that it took."""
+        Without a seed, it makes it. Gives the status, what was said, and the seconds that it took."""
+        kept = self.seed
+        if os.path.isdir(kept):
+            kept = f"{self.folder}.kept"
+            linked(self.seed, kept)
         for path in set(self.changed) - set(texts):
             shutil.copyfile(f"{self.crate.folder}/{path}", f"{self.folder}/{path}")
         for path, text in texts.items():
             with open(f"{self.folder}/{path}", "w", encoding="utf-8") as it:
                 it.write(text)
         self.changed = dict(texts)
-        words = [RATTLE, "check", *self.words, "--short-goals", "--incremental", self.kept]
+        words = [RATTLE, "check", *self.words, "--short-goals", "--incremental", kept]
         words += [it for name in only for it in ("--only", name)]
         began = time.monotonic()
         how = {"stdin": subprocess.DEVNULL, "stdout": subprocess.PIPE, "stderr": subprocess.STDOUT}
         ran = subprocess.run(words, cwd=self.folder, errors="replace", check=False, **how)
         took, self.checks = time.monotonic() - began, self.checks + 1
+        if kept != self.seed:
+            shutil.rmtree(kept)
         if log:
             log(f"== {self.crate.name}, {took:.0f} s, status {ran.returncode}: {' '.join(only)}\n{ran.stdout}")
         return ran.returncode, ran.stdout, took
@@ -97,7 +122,7 @@ def judged_alone(symbol, line, ended, notes, lines):
         return "proved", line
     if not ended.startswith(("not proved", "no proof")) or CALLEE.search(ended):
         return "doubt", line
-    if own or "`search` did not prove `" in ended:
+    if own or "`search` did not prove `" in ended or LOOPS in ended:
         return "refused", (own or [line])[0]
     return ("names", errors[0]) if errors else ("doubt", line)
 

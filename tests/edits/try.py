@@ -12,6 +12,7 @@ edits are tried once the libraries below it are proved or kept, and once rt ci h
 lanes as there are processors. With --until they are tried in an order that the commit draws, and none
 are begun once so many seconds have passed; it prints which weren't tried."""
 import argparse
+import collections
 import hashlib
 import os
 import shutil
@@ -28,7 +29,8 @@ sys.path[:0] = [HERE, os.path.join(HERE, "../static")]
 from crates import crates
 from edit import edits_of
 from functions import Code
-from trying import try_edits
+from room import listing
+from trying import make_seed, try_edits
 
 PAUSE = 2  # seconds between two looks at a log
 PART = 60  # the most edits of a crate that a lane takes at once
@@ -81,6 +83,40 @@ class Libraries:
         return None
 
 
+class Seeds:
+    """What a check of each crate without an edit kept, which one lane makes for all parts."""
+
+    def __init__(self, crates, edits, libraries, say, log):
+        self.crates, self.edits, self.libraries, self.say, self.log = crates, edits, libraries, say, log
+        self.made, self.why, self.making = {}, {}, set()
+        self.left = collections.Counter(it.crate for it in edits)
+
+    def folder_of(self, name):
+        return f"{self.libraries.folder}/{name}.seed"
+
+    def of(self, name):
+        """The folder of a crate's seed, made if it isn't there; None where it isn't proved."""
+        seed, rlibs = self.folder_of(name), self.libraries.folder
+        if name not in self.made:
+            own = [it for it in self.edits if it.crate == name]
+            try:
+                made = make_seed(self.crates[name], own, rlibs, seed, self.say, self.log)
+                self.made[name], self.why[name] = made
+            finally:
+                self.making.discard(name)
+        return seed if self.made[name] is not None else None
+
+    def judge(self, part):
+        """Where the seed wasn't proved, or was touched, nothing counts of what was tried over it."""
+        name = part[0].crate
+        if self.made[name] is None or listing(self.folder_of(name)) != self.made[name]:
+            for it in part:
+                it.verdict, it.said = "UNSOUND", f"the crate isn't proved without it: {self.why[name]}"
+        self.left[name] -= len(part)
+        if not self.left[name]:
+            shutil.rmtree(self.folder_of(name), ignore_errors=True)
+
+
 class Lanes:
     """Parts of crates' edits that are tried side by side, first those that take longest: an edit takes
     the longer the more libraries its crate stands on. With an end they come as drawn, and no part
@@ -89,6 +125,7 @@ class Lanes:
     def __init__(self, crates, edits, libraries, end, say, log):
         self.crates, self.libraries, self.end, self.say, self.log = crates, libraries, end, say, log
         self.code, drawn = Code(crates, crates), draw()
+        self.seeds = Seeds(crates, edits, libraries, say, log)
         of = [[it for it in edits if it.crate == name] for name in crates]
         if end:
             of = [sorted(it, key=lambda edit: drawn(edit.key)) for it in of]
@@ -103,11 +140,14 @@ class Lanes:
             if self.end and time.monotonic() > self.end:
                 return None
             for part in list(self.left):
-                lacking = self.libraries.lacking(self.crates[part[0].crate])
-                if lacking == "later":
+                name = part[0].crate
+                lacking = self.libraries.lacking(self.crates[name])
+                if lacking == "later" or name in self.seeds.making:
                     continue
                 self.left.remove(part)
                 if not lacking:
+                    if name not in self.seeds.made:
+                        self.seeds.making.add(name)
                     return part
                 for it in part:
                     it.verdict, it.said = "NOT TRIED", f"{lacking} isn't built: rt check builds it"
@@ -121,9 +161,11 @@ class Lanes:
             if part == "later":
                 time.sleep(PAUSE)
                 continue
-            crate, folder = self.crates[part[0].crate], self.libraries.folder
-            reach, is_proved = self.code.reach(crate.name), bool(self.libraries.log)
-            try_edits(crate, part, reach, folder, is_proved, self.say, self.log)
+            crate, seed = self.crates[part[0].crate], self.seeds.of(part[0].crate)
+            if seed:
+                reach, folder = self.code.reach(crate.name), self.libraries.folder
+                try_edits(crate, part, reach, folder, seed, self.say, self.log)
+            self.seeds.judge(part)
 
     def run(self, lanes):
         many = max(lanes, os.cpu_count() if self.libraries.log else 0)

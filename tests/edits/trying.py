@@ -3,16 +3,16 @@
 A function's proof rests on the contracts of what it calls, and not on their bodies. So edits of the
 bodies of different functions go into one check, a round, and each edited function has to have a goal
 of its own that isn't proved. What a round leaves in doubt, as a function that calls another one of
-the round, is tried again without that one, then alone, and then by a check of the whole crate. At
-the end the crate without an edit has to be proved over what the rounds kept, or nothing counts. Where
-rt ci proves the crate in the same run, one of its functions is enough for that."""
+the round, is tried again without that one, then alone, and then by a check of the whole crate. Each
+check begins with what one without an edit kept, the seed, in which the edited functions have to be
+proved, or nothing counts."""
 import os
 import shutil
 import tempfile
 import time
 
 from edit import applied
-from room import CALLED, Room, goals_in, judged, judged_error, judged_whole
+from room import CALLED, Room, goals_in, judged, judged_error, judged_whole, listing
 
 MOST = 20  # edits in a round
 VERDICTS = ("refused", "names", "unread", "doubt", "proved")
@@ -62,10 +62,8 @@ class Rounds:
 class Trying:
     """A crate's edits that are being tried, in a room of their own."""
 
-    def __init__(self, crate, edits, reach, folder, rlibs, is_proved, say, log):
-        self.crate, self.edits, self.say, self.log = crate, edits, say, log
-        self.is_proved = is_proved
-        self.room = Room(crate, folder, rlibs)
+    def __init__(self, crate, edits, reach, room, say, log):
+        self.crate, self.edits, self.room, self.say, self.log = crate, edits, room, say, log
         self.texts = {path: text for it in edits for path, text in it.texts.items()}
         self.rounds, self.wholes, self.tried = Rounds(reach), [], set()
 
@@ -85,7 +83,6 @@ class Trying:
             )
             it.goals = goals_in(said)
             self.say(f"{it.key}: by a check of the whole crate: {it.verdict}, {took:.0f} s")
-        self.control(many)
         for it in self.edits:
             if it.verdict == "names":
                 it.verdict = "BAD EDIT"
@@ -128,29 +125,29 @@ class Trying:
         elif edit.verdict == "doubt":
             self.wholes.append(edit)
 
-    def control(self, many):
-        """Sees that the crate itself is proved over the same work, without which no refusal counts. What
-        rt ci proves anyhow is seen by one function."""
-        if not self.room.checks:
-            return
-        only = sorted({symbol for it in many for symbol in it.symbols})
-        if self.is_proved:
-            only = only[:1]
-        elif self.wholes:
-            only = []
-        status, said, took = self.room.check({}, only, self.log)
-        self.say(f"{self.crate.name}: without an edit, status {status}, {took:.0f} s")
-        if status:
-            for it in self.edits:
-                it.verdict, it.said = "UNSOUND", "the crate isn't proved without it"
 
-
-def try_edits(crate, edits, reach, rlibs, is_proved, say, log):
-    """Tries a crate's edits, of whose functions it is known which reach which, and leaves each one's
-    verdict with it: 'refused' is well. The crate may be one that rt ci proves beside it."""
+def in_room(crate, rlibs, seed, work):
+    """What this does with a room for a crate, in which nothing stays."""
     temp = tempfile.mkdtemp(prefix=f"try-edits-{crate.name}-")
     try:
         os.mkdir(f"{temp}/crate")
-        Trying(crate, edits, reach, temp, rlibs, is_proved, say, log).run()
+        return work(Room(crate, temp, rlibs, seed))
     finally:
         shutil.rmtree(temp, ignore_errors=True)
+
+
+def make_seed(crate, edits, rlibs, seed, say, log):
+    """Proves without an edit what these of a crate change: the functions, or all where one changes
+    more. Gives what tells whether the seed is touched, or nothing where it isn't proved; and what was said."""
+    wholes = [it for it in edits if not it.symbols and not it.errors and not it.verdict]
+    only = [] if wholes else sorted({symbol for it in edits for symbol in it.symbols})
+    status, said, took = in_room(crate, rlibs, seed, lambda room: room.check({}, only, log))
+    why = (said.strip().splitlines() or [""])[-1]
+    say(f"{crate.name}: without an edit, status {status}, {took:.0f} s: {why}")
+    return None if status else listing(seed), why
+
+
+def try_edits(crate, edits, reach, rlibs, seed, say, log):
+    """Tries a crate's edits, of whose functions it is known which reach which, and leaves each one's
+    verdict with it: 'refused' is well. The crate may be one that rt ci proves beside it."""
+    in_room(crate, rlibs, seed, lambda room: Trying(crate, edits, reach, room, say, log).run())

@@ -36,11 +36,12 @@ class Totals(ctypes.Structure):
 
 
 def named():
-    """The functions that the header declares or calls, but its own; also by the names by which it links them."""
+    """The functions that the header declares or calls, but its own and types of functions; also by the
+    names by which it links them."""
     numbers = "_".join(version_of(HEADER)[1].split(".")[:2])
     linked = set(re.findall(r"FERRETGOLD_(?:LINKED|OF_VERSION)\((ferretgold_\w+)\)", HEADER))
     code = re.sub(r"/\*.*?\*/|//[^\n]*|^[ \t]*#(?:[^\n]*\\\n)*[^\n]*", " ", HEADER, flags=re.S | re.M)
-    own = set(re.findall(r"\bstatic inline [^;{}]*?(ferretgold_\w+)\s*\(", code))
+    own = set(re.findall(r"\b(?:static inline|typedef) [^;{}]*?(ferretgold_\w+)\s*\(", code))
     return {f"{it}_{numbers}" for it in linked} | set(re.findall(r"\b(ferretgold_\w+)\s*\(", code)) - own
 
 

@@ -172,15 +172,16 @@ def rows_of_body(lines, row, indent):
     return row, row
 
 
-def body_at(text, at):
-    """The function in whose body this place is, as its type and its name, or None."""
+def body_at(text, at, or_head=False):
+    """The function in whose body this place is, or on whose first line, as its type and its name, or
+    None."""
     lines, row = text.split("\n"), text.count("\n", 0, at)
     for top in range(row, -1, -1):
         found = FUNCTION.match(lines[top])
         if not found:
             continue
         opens, end = rows_of_body(lines, top, found[1])
-        if row <= opens:
+        if row <= opens and not (or_head and row == top):
             return None
         if row <= end:
             head = next((it for it in lines[top::-1] if BLOCK.match(it)), "") if found[1] else ""

@@ -10,7 +10,7 @@ TOP = Path(__file__).resolve().parent.parent.parent
 CRATE = TOP / "crates/hcc_c/src"
 # The structs that cross, as the library and as C call them.
 STRUCTS = {"Key": "key", "CHandle": "handle", "CConfig": "config", "Stats": "stats", "Totals": "totals",
-           "Counts": "counts", "Entry": "entry", "CObject": "object_value", "CHeldObject": "held_object",
+           "Counts": "outcomes", "Entry": "entry", "CObject": "object_value", "CHeldObject": "held_object",
            "CObjectConfig": "object_config"}
 SIZES = {"bool": 1, "u16": 2, "u32": 4, "u64": 8, "usize": 8, "Key": 16, "CObject": 16, "CHandle": 24}
 RUST = TOP / "rust/src"
@@ -22,13 +22,14 @@ FIELDS = ("config", "handle", "key", "stats", "counts", "totals", "fit", "entry"
 HEADERS = tuple(TOP / f"include/ferretgold{it}.h" for it in ("", "_closed", "_image", "_file", "_object"))
 IN_CPP = {"ferretgold.hpp": HEADERS[:3], "ferretgold_file.hpp": HEADERS[3:4],
           "ferretgold_object.hpp": HEADERS[4:]}
-# For which C++ and Rust have types, and what neither has, with its status.
-ONLY_IN_C = (*(f"ferretgold_object_{it}" for it in ("free_bytes", "insert_bytes", "bytes", "save", "load",
-                                                    "size", "copy", "make")), "BUSY")
+# For which C++ and Rust have types, and what neither has.
+ONLY_IN_C = tuple(f"ferretgold_object_{it}" for it in ("free_bytes", "insert_bytes", "bytes", "walk", "visit",
+                                                       "save", "load"))
 # By which name a function is linked.
 LINKED = r"FERRETGOLD_LINKED\((\w+)\)"
 # Functions of the caller's, which the library calls.
-GIVEN = ("ferretgold_write", "ferretgold_read", "ferretgold_deleter")
+GIVEN = tuple(f"ferretgold_{it}" for it in ("write", "read", "deleter", "meant", "object_size", "object_copy",
+                                            "object_make"))
 
 
 def source(name):
@@ -63,7 +64,7 @@ def library_numbers():
     refusals = re.findall(r"Refusal::(\w+) => (\d+),", text)
     priorities = re.findall(r"number == (\d+) \{\s*Some\(Priority::(\w+)\)", text)
     outcomes = re.findall(r"Inserted::(\w+) => (\d+),", text)
-    if (len(refusals), len(priorities), len(outcomes)) != (27, 3, 3):
+    if (len(refusals), len(priorities), len(outcomes)) != (28, 3, 3):
         raise ValueError("refusal.rt isn't as it was")
     for name, number in refusals + [(b, a) for a, b in priorities] + outcomes:
         yield f"{upper(name)} == {number}"
@@ -107,8 +108,8 @@ def rust_of(kind):
 
 def split(parameter):
     """A parameter's or a field's name and type."""
-    kind, name = re.fullmatch(r"(.*?)(\w+)", " ".join(parameter.split())).groups()
-    return name, rust_of(kind.strip())
+    kind, name, many = re.fullmatch(r"(.*?)(\w+)(?:\[(\d+)\])?", " ".join(parameter.split())).groups()
+    return name, f"[{rust_of(kind.strip())}; {many}]" if many else rust_of(kind.strip())
 
 
 def declared(code):
@@ -125,7 +126,8 @@ def declared(code):
 def crate_declares():
     raw = read(RUST / "raw.rs")
     found = re.findall(r"pub (?:fn (\w+)|type (\w+) =\s+unsafe extern \"C\" fn)\((.*?)\)(?:\s+-> ([^;]+))?;", raw, re.S)
-    return {name or f"ferretgold_{given.lower()}":
+    snake = lambda it: re.sub("(?<!^)(?=[A-Z])", "_", it).lower()
+    return {name or f"ferretgold_{snake(given)}":
             ([tuple(it.strip().split(": ")) for it in parameters.split(",") if it.strip()], kind)
             for name, given, parameters, kind in found}
 
@@ -144,14 +146,14 @@ def fields(kind, code, crate):
     inner = re.search(r"typedef struct ferretgold_%s \{(.*?)\}" % kind, code, re.S)[1]
     in_c = [split(it) for it in inner.split(";") if it.strip()]
     inner = re.findall(r"#\[repr\(C\)\][^{}]*pub struct %s \{(.*?)\n\}" % rust_name(kind), crate, re.S)
-    return in_c, re.findall(r"^    pub (\w+): ([\w* ]+),", "".join(inner), re.M)
+    return in_c, re.findall(r"^    pub (\w+): ([\w* ]+|\[\w+; \d+\]),", "".join(inner), re.M)
 
 
 def numbers(kind, mark, constant, code, crate):
     """The statuses of both: those that refuse."""
     inner = "".join(re.findall(r"enum (?:ferretgold_%s )?\{(.*?)\}" % kind, code, re.S))
     both = (re.findall(rf"{mark}(\w+) = (\d+)", inner), re.findall(constant, crate, re.M))
-    return [{name: int(it) for name, it in found if int(it) > 1 and name not in ONLY_IN_C} for found in both]
+    return [{name: int(it) for name, it in found if int(it) > 1} for found in both]
 
 
 def wrappers():

@@ -11,7 +11,8 @@ from texts import read, tracked
 CONSTANTS = ("hcc_core/src/limits.rt", "hcc_rule/src/layout.rt", "hcc_cache/src/limits.rt")
 # What repeats them: constants of C and Rust, by their names there.
 REPEATED = {
-    "src/limits.h": {it: it for it in ("FEWEST_SLOTS", "MOST_SLOTS", "MOST_SHARDS", "MOST_CLIENTS", "MOST_VALUE")},
+    "src/limits.h": {it: it for it in ("FEWEST_SLOTS", "MOST_SLOTS", "MOST_SHARDS", "MOST_CLIENTS", "MOST_VALUE",
+                                            "OCCUPANCY_PERCENT")},
     "include/ferretgold.h": {"FERRETGOLD_MOST_SERIALS": "STAMPS_PER_CLIENT"},
     "rust/src/config.rs": {"MOST_SERIALS": "STAMPS_PER_CLIENT"},
 }

@@ -17,7 +17,7 @@ use Rattle.hcc_cache.specs.Known.{Knows}
 use Rattle.hcc_cache.specs.Opened.{IsCacheOf}
 use Rattle.hcc_c.specs.declared.pool.Pool.{Pool}
 use Rattle.hcc_c.specs.declared.refusal.Refusal.{Refusal}
-use Rattle.hcc_c.specs.declared.refusal.Refusal.TheVariants.{ClientsOut}
+use Rattle.hcc_c.specs.declared.refusal.Refusal.TheVariants.{Shared}
 use Rattle.hcc_c.specs.declared.session.Session.{Session}
 use Rattle.hcc_c.specs.Pools.{AreFit, Closes, Ends, EndsWith, Has, IsBack, IsEmpty, IsSized, IsWholePool, clients_in, first_of, judged_all, judged_back, judged_each}
 use Rattle.hcc_c.specs.Sessions.{IsWhole, any}
@@ -146,7 +146,7 @@ passes pool held fine count =
 pub ended : (answer : Result Closed Refusal) (old new : Pool) (were are : List (Option Session))
     (back : Vec (Client AnyBytes)) → judged_all old were ≡ Ok tt → Each IsEmpty are
     → back.items ≡ old.back.items ++ clients_in were → IsWholePool (record old { back = back })
-    → IfErr answer (λ e. (e ≡ ClientsOut) × (new ≡ record old { back = back }))
+    → IfErr answer (λ e. (e ≡ Shared) × (new ≡ record old { back = back }))
     → IfOk answer (λ closed. Closes closed (record old { back = back }) back.items)
     → EndsWith answer old new were are
 ended (Ok closed) old new were are back ok none items whole shared closes = record {

@@ -17,7 +17,7 @@ use Rattle.hcc_cache.specs.ObjectsOpened.{IsOpenedFor}
 use Rattle.hcc_c.specs.declared.object_pool.ObjectPool.{ObjectPool}
 use Rattle.hcc_c.specs.declared.object_session.ObjectSession.{ObjectSession}
 use Rattle.hcc_c.specs.declared.refusal.Refusal.{Refusal}
-use Rattle.hcc_c.specs.declared.refusal.Refusal.TheVariants.{ClientsOut, HandlesOut, OtherCache, Untaken}
+use Rattle.hcc_c.specs.declared.refusal.Refusal.TheVariants.{HandlesOut, OtherCache, Shared, Untaken}
 use Rattle.hcc_c.specs.ObjectPools.{AreFit, Closes, Ends, EndsWith, Has, IsBack, IsEmpty, IsSized, IsWholePool, clients_in, judged_all, judged_back, judged_each}
 use Rattle.hcc_c.specs.ObjectSessions.{IsWhole}
 use Rattle.hcc_c.proofs.Backs.{each_at, each_both, each_of, ends_told, first_ok, on_ok}
@@ -134,7 +134,7 @@ pub ended : (answer : Result ObjectsLeft Refusal) (old new : ObjectPool)
     (were are : List (Option ObjectSession)) (back : Vec ObjectClient)
     → judged_all old were ≡ Ok tt → Each IsEmpty are
     → back.items ≡ old.back.items ++ clients_in were → IsWholePool (record old { back = back })
-    → IfErr answer (λ e. (e ≡ ClientsOut) × (new ≡ record old { back = back }))
+    → IfErr answer (λ e. (e ≡ Shared) × (new ≡ record old { back = back }))
     → IfOk answer (λ left. Closes left (record old { back = back }) back.items)
     → EndsWith answer old new were are
 ended (Ok left) old new were are back ok none items whole shared closes = record {

@@ -1,5 +1,5 @@
 -- What each call of a client comes to: what it answers, and what it leaves of the session.
-use Rattle.std.specs.Prelude.{◌≡◌, ℕ, ◌+◌, ◌-◌, ◌*◌, ◌/◌, ◌<◌, ◌≤◌, ◌++◌, ◌↔◌, Bool, true, List, Option, Result, Err, IfOk, IfErr, IfSome, IfNone, OnOk, OnErr, IsOk, IsErrOf, IsOkUnless, MatchResult, drop, length, option_map}
+use Rattle.std.specs.Prelude.{◌≡◌, ℕ, ◌+◌, ◌-◌, ◌*◌, ◌/◌, ◌<◌, ◌≤◌, ◌++◌, ◌↔◌, Bool, true, false, List, Option, Result, Ok, Err, IfOk, IfErr, IfSome, IfNone, OnOk, OnErr, IsOk, IsErrOf, IsOkUnless, MatchResult, drop, length, option_map}
 use Rattle.std.specs.Arc.{arc_value}
 use Rattle.hcc_core.specs.declared.limits.TheConstants.{OCCUPANCY_PERCENT}
 use Rattle.hcc_rule.specs.declared.key.Key.{Key}
@@ -16,11 +16,15 @@ use Rattle.hcc_cache.specs.declared.errors.LookupError.{LookupError}
 use Rattle.hcc_cache.specs.declared.errors.LookupError.TheVariants as look
 use Rattle.hcc_cache.specs.declared.handle.Handle.{Handle}
 use Rattle.hcc_cache.specs.declared.inserting.Inserted.{Inserted}
+use Rattle.hcc_cache.specs.declared.inserting.Inserted.TheVariants.{Placed}
 use Rattle.hcc_cache.specs.declared.priority.Priority.{Priority}
+use Rattle.hcc_cache.specs.Alones.{AreAlone}
 use Rattle.hcc_cache.specs.Calls.{AcquiresFor, AtShard, CountsAt, CountsBy, CountsNone, Erases, ErasesFor, Finds, GivesUp, KeepsAll, Misses, OnlyAt, Reads, Releases, Rerefs, SearchesFor, TakesAtMost, TakesFor, Works, shard_in}
 use Rattle.hcc_cache.specs.Clients.{Holds, held_by, held_of, view_at}
 use Rattle.hcc_cache.specs.Gets.{GetsAt, GetsFor, SeeksAt}
 use Rattle.hcc_cache.specs.Inserts.{Inserts, InsertsAt, InsertsPinnedAt, InsertsWith, RefusesPinnedAt, RefusesWith}
+use Rattle.hcc_cache.specs.Moments.{KnowsShown}
+use Rattle.hcc_cache.specs.Stays.{ReleasesIn, Stays, StaysWhereStanding}
 use Rattle.hcc_cache.specs.Totals.{CountsEach, LoadsEachOccupancy, LoadsEachUsage, LoadsUsages, SearchesAll, charge_by, entries_by, made_by, taken_by}
 use Rattle.hcc_c.specs.declared.inserting.Unfit.{Unfit}
 use Rattle.hcc_c.specs.declared.inserting.Unfit.TheVariants as reason
@@ -53,6 +57,7 @@ pub record LooksUp (key : Key) (answer : Result (Option CHandle) LookupError) (o
       new.client))
   pub searched : IfOk answer (λ o. SearchesFor (arc_value old.cache) any key
       (option_map handle_in o) old.client new.client)
+  pub stays : Stays (arc_value old.cache) old.client new.client
   pub counts : IfOk answer (λ _. CountsAt (shard_in (arc_value old.cache) key)
       old.client new.client)
   pub visits : IfOk answer (λ _. TakesFor (arc_value old.cache) 7 (λ v w. 0)
@@ -76,6 +81,7 @@ pub record RefersAgain (c_handle : CHandle) (answer : Option (Result CHandle Loo
       × (more ≡ c_handle_of old.cache_number handle)))
   pub acquires : IfSome answer (λ a. IfOk a (λ _.
       AcquiresFor (arc_value old.cache) (handle_in c_handle) old.client new.client))
+  pub stays : IfSome answer (λ _. Stays (arc_value old.cache) old.client new.client)
   pub counts : IfSome answer (λ a. IfOk a (λ _.
       CountsBy (handle_in c_handle) old.client new.client))
   pub rest : KeepsRest old new
@@ -88,6 +94,12 @@ pub record GivesBack (c_handle : CHandle) (useful erase : Bool) (answer : Option
   pub released : IfSome answer (λ freed. (handle : Handle) × IsHandle old c_handle handle
       × Releases (arc_value old.cache) handle erase freed old.client new.client
       × GivesUp (arc_value old.cache) handle useful erase freed old.client new.client)
+  pub by : IfSome answer (λ freed. ReleasesIn (arc_value old.cache) (handle_in c_handle) useful
+      erase freed old.client new.client)
+  pub stays : IfSome answer (λ freed. freed ≡ false
+      → Stays (arc_value old.cache) old.client new.client)
+  pub standing : IfSome answer (λ _. StaysWhereStanding (arc_value old.cache)
+      (handle_in c_handle) old.client new.client)
   pub counts : IfSome answer (λ _. CountsBy (handle_in c_handle) old.client new.client)
   pub rest : KeepsRest old new
   pub steps : TakesAtMost (freeing (arc_value old.cache).geometry.slots + 3)
@@ -145,6 +157,8 @@ module _ (key : Key) (charge : ℕ) (priority : Priority) (value : List ℕ) whe
         Inserts (arc_value old.cache) key charge priority value a old.client new.client)
     pub evicts : IfOk answer (λ a.
         InsertsAt (arc_value old.cache) any key charge priority a old.client new.client)
+    pub shown : IfOk answer (λ a. (arc_value old.cache).geometry.clients ≡ 1
+        → a ≡ Ok Placed → KnowsShown (arc_value old.cache) key new.client)
     pub others : IfOk answer (λ _. OnlyAt (shard_in (arc_value old.cache) key)
         old.client new.client)
     pub frees : IfOk answer (λ _. InsertsFor old new)
@@ -177,6 +191,9 @@ module _ (key : Key) (charge : ℕ) (priority : Priority) (value : List ℕ) whe
         old.client new.client)
         (λ why. RefusesPinnedAt (arc_value old.cache) any key charge priority why
         old.client new.client))
+    pub shown : IfOk answer (λ a. (arc_value old.cache).geometry.clients ≡ 1
+        → IfOk a (λ made. made.1 ≡ Placed
+        → KnowsShown (arc_value old.cache) key new.client))
     pub others : IfOk answer (λ _. OnlyAt (shard_in (arc_value old.cache) key)
         old.client new.client)
     pub frees : IfOk answer (λ _. held_by old.client < old.client.most → InsertsFor old new)
@@ -198,6 +215,7 @@ pub record TellsLength (c_handle : CHandle) (answer : Option ℕ) (old new : Ses
       × IfSome (held_of (arc_value old.cache) old.client handle) (λ held.
       len ≡ length held.insertion.value))
   pub reads : IfSome answer (λ _. Reads (arc_value old.cache) old.client new.client)
+  pub stays : IfSome answer (λ _. Stays (arc_value old.cache) old.client new.client)
   pub rest : KeepsRest old new
   pub steps : TakesAtMost 1 old.client new.client
 
@@ -215,6 +233,7 @@ pub record ReadsValue (c_handle : CHandle) (answer : Option (Result ℕ ℕ)) (b
       len ≡ length held.insertion.value)
       × (length before < len) × (after ≡ before)))
   pub reads : IfSome answer (λ _. Reads (arc_value old.cache) old.client new.client)
+  pub stays : IfSome answer (λ _. Stays (arc_value old.cache) old.client new.client)
   pub rest : KeepsRest old new
   pub steps : IfSome answer (λ a. IfOk a (λ len.
       TakesAtMost (words_for len + 1) old.client new.client))
@@ -227,6 +246,7 @@ pub record GetsValue (key : Key) (useful : Bool) (answer : Got) (before after : 
   pub gets : GetsAt (arc_value old.cache) any key useful answer before after old.client new.client
   pub keeps : KeepsAll (arc_value old.cache) old.client new.client
   pub seeks : SeeksAt (shard_in (arc_value old.cache) key) old.client new.client
+  pub stays : Stays (arc_value old.cache) old.client new.client
   pub counts : CountsAt (shard_in (arc_value old.cache) key) old.client new.client
   pub rest : KeepsCounting (counted_get answer old.counts) old new
   pub steps : TakesFor (arc_value old.cache) 7
@@ -243,6 +263,7 @@ pub record TellsUsage (usage : ℕ) (old new : Session) : Type 0 where
   pub strict : (arc_value old.cache).strict ≡ true
       → usage ≤ old.shards * (arc_value old.cache).capacity
   pub counts : CountsNone old.client new.client
+  pub standing : AreAlone old.client new.client
   pub rest : KeepsRest old new
   pub steps : TakesAtMost old.shards old.client new.client
 
@@ -253,6 +274,8 @@ pub record TellsPinned (usage : ℕ) (old new : Session) : Type 0 where
   pub entries : charge_by old.client ≤ usage
   pub alone : (arc_value old.cache).geometry.clients ≡ 1 → usage ≡ charge_by old.client
   pub loads : CountsEach (arc_value old.cache) any usage old.client new.client
+  pub stays : Stays (arc_value old.cache) old.client new.client
+  pub standing : AreAlone old.client new.client
   pub rest : KeepsRest old new
   pub steps : TakesAtMost (old.shards * (5 * old.slots + 1)) old.client new.client
 
@@ -265,6 +288,7 @@ pub record TellsOccupancy (occupancy : ℕ) (old new : Session) : Type 0 where
   pub high : occupancy ≤ old.shards * ((arc_value old.cache).geometry.slots
       * OCCUPANCY_PERCENT / 100 + (arc_value old.cache).geometry.clients)
   pub loads : LoadsEachOccupancy (arc_value old.cache) occupancy old.client new.client
+  pub standing : AreAlone old.client new.client
   pub rest : KeepsRest old new
   pub steps : TakesAtMost old.shards old.client new.client
 
@@ -283,6 +307,7 @@ module _ (shard slot : ℕ) where
     pub backs : IfSome answer (λ word. Backs slot word (view_at shard old.client))
     pub loads : IfSome answer (λ word. AtShard (arc_value old.cache)
         (λ there was is. LoadsWord there slot word was is) shard old.client new.client)
+    pub stays : IfSome answer (λ _. Stays (arc_value old.cache) old.client new.client)
     pub counts : CountsNone old.client new.client
     pub rest : KeepsRest old new
     pub steps : TakesAtMost 1 old.client new.client
@@ -297,5 +322,6 @@ module _ (shard slot : ℕ) where
     pub loads : IfSome answer (λ count. AtShard (arc_value old.cache)
         (λ there was is. LoadsDisplacement there slot count was is) shard
         old.client new.client)
+    pub stays : IfSome answer (λ _. Stays (arc_value old.cache) old.client new.client)
     pub rest : KeepsRest old new
     pub steps : TakesAtMost 1 old.client new.client

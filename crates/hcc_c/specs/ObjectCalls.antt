@@ -24,7 +24,7 @@ use Rattle.hcc_cache.specs.Clients.{held_by, held_of}
 use Rattle.hcc_cache.specs.Keys.{key_from}
 use Rattle.hcc_cache.specs.ObjectInserts.{FailsObject, InsertsObject, MayInsert, MayStand, PinsObject, answer_as, is_full, placed_as, refused_as}
 use Rattle.hcc_cache.specs.Objects.{HandsBack, alone_of, gone_of, is_word, object_bytes, object_of, places_left, shelf_of}
-use Rattle.hcc_cache.specs.Stays.{Stays}
+use Rattle.hcc_cache.specs.Stays.{ReleasesWith, Stays}
 use Rattle.hcc_cache.specs.Totals.{CountsEach, LoadsEachOccupancy, LoadsEachUsage, LoadsUsages, SearchesAll, charge_by, entries_by, made_by, taken_by}
 use Rattle.hcc_cache.specs.Walked.{HoldsAt, IsSlotIn, PassesAt}
 use Rattle.hcc_c.specs.declared.inserting.Unfit.{Unfit}
@@ -115,6 +115,8 @@ pub record GivesBack (c_handle : CHandle) (useful erase : Bool) (answer : Option
       × Releases (below old) handle erase freed (client_in old) (client_in new)
       × HandsBack (arc_value old.cache) handle freed old.client new.client
       × GivesUpWith (below old) (has_room 1 (shelf_of old.client)) handle useful erase freed
+      (client_in old) (client_in new)
+      × ReleasesWith (below old) (has_room 1 (shelf_of old.client)) handle useful erase freed
       (client_in old) (client_in new))
   pub rest : IfSome answer (λ _. Keeps old.counts old new)
   pub steps : Within (freeing (below old).geometry.slots + 4) old new

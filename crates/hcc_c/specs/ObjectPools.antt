@@ -17,7 +17,7 @@ use Rattle.hcc_c.specs.declared.object_holders.ObjectClientPlace.{ObjectClientPl
 use Rattle.hcc_c.specs.declared.object_pool.ObjectPool.{ObjectPool}
 use Rattle.hcc_c.specs.declared.object_session.ObjectSession.{ObjectSession}
 use Rattle.hcc_c.specs.declared.refusal.Refusal.{Refusal}
-use Rattle.hcc_c.specs.declared.refusal.Refusal.TheVariants.{HandlesOut, ClientsOut, OtherCache, OutOfMemory, Untaken}
+use Rattle.hcc_c.specs.declared.refusal.Refusal.TheVariants.{HandlesOut, ClientsOut, OtherCache, OutOfMemory, Shared, Untaken}
 use Rattle.hcc_c.specs.Counts.{no_counts}
 use Rattle.hcc_c.specs.ObjectSessions.{IsWhole}
 use Rattle.hcc_c.specs.Pools.{first_of}
@@ -157,7 +157,7 @@ pub record Ends {A : Type 0} (IsOf : A → ObjectsLeft → Type 0) (answer : Res
   pub refused : IfErr (judged_all old were) (λ why.
       (answer ≡ Err why) × (new ≡ old) × (are ≡ were))
   pub taken : OnOk (judged_all old were) (Each IsEmpty are)
-  pub shared : OnOk (judged_all old were) (IfErr answer (λ e. (e ≡ ClientsOut)
+  pub shared : OnOk (judged_all old were) (IfErr answer (λ e. (e ≡ Shared)
       × HasBack (old.back.items ++ clients_in were) old new))
   pub closed : IfOk answer (λ given. (left : ObjectsLeft)
       × Closes left old (old.back.items ++ clients_in were) × IsOf given left)

@@ -12,11 +12,13 @@ use Rattle.hcc_cache.specs.Clients.{held_by}
 use Rattle.hcc_cache.specs.Configs.{checked, shard_geometry}
 use Rattle.hcc_cache.specs.Known.{Knows}
 use Rattle.hcc_cache.specs.Closings.{AreBack, IsClosed}
+use Rattle.hcc_cache.specs.Ended.{KnowNothing, LeavesWorlds}
 use Rattle.hcc_cache.specs.Opened.{IsOpened}
+use Rattle.hcc_cache.specs.Stays.{BeganEachWithin}
 use Rattle.hcc_c.specs.declared.closed.Left.{Left}
 use Rattle.hcc_c.specs.declared.objects.ClientPlace.{ClientPlace}
 use Rattle.hcc_c.specs.declared.refusal.Refusal.{Refusal}
-use Rattle.hcc_c.specs.declared.refusal.Refusal.TheVariants.{HandlesOut, ClientsOut, OtherCache, OutOfMemory}
+use Rattle.hcc_c.specs.declared.refusal.Refusal.TheVariants.{HandlesOut, ClientsOut, OtherCache, OutOfMemory, Shared}
 use Rattle.hcc_c.specs.declared.shapes.Totals.{Totals}
 use Rattle.hcc_c.specs.declared.pool.Pool.{Pool}
 use Rattle.hcc_c.specs.declared.session.Session.{Session}
@@ -98,6 +100,8 @@ pub record Opens (config : Config) (number : ℕ) (pool : Pool) (places : List C
   pub cache : Cache AnyBytes
   pub clients : List (Client AnyBytes)
   pub opened : IsOpened config tag cache clients
+  pub began : BeganEachWithin cache any
+  pub past : KnowNothing clients
   pub begins : BeginsWith cache clients config number pool places
 
 -- A cache is opened, and all its clients are given out.
@@ -147,7 +151,8 @@ judged_all pool held = first_of (judged_each pool.number held)
 -- the cache was closed by these clients, and this was left of it
 abbrev pub Closes : Closed → Pool → List (Client AnyBytes) → Type 0
 Closes closed pool clients =
-    IfOpen pool (λ cache. AreBack cache clients × IsClosed any cache clients closed)
+    IfOpen pool (λ cache. AreBack cache clients × IsClosed any cache clients closed
+    × LeavesWorlds any cache clients closed)
 
 -- the same cache, which has these clients back
 abbrev pub HasBack : List (Client AnyBytes) → (old new : Pool) → Type 0
@@ -161,7 +166,7 @@ pub record Ends {A : Type 0} (IsOf : A → Closed → Type 0) (answer : Result A
   pub refused : IfErr (judged_all old were) (λ why.
       (answer ≡ Err why) × (new ≡ old) × (are ≡ were))
   pub taken : OnOk (judged_all old were) (Each IsEmpty are)
-  pub shared : OnOk (judged_all old were) (IfErr answer (λ e. (e ≡ ClientsOut)
+  pub shared : OnOk (judged_all old were) (IfErr answer (λ e. (e ≡ Shared)
       × HasBack (old.back.items ++ clients_in were) old new))
   pub closed : IfOk answer (λ given. (left : Closed)
       × Closes left old (old.back.items ++ clients_in were) × IsOf given left)

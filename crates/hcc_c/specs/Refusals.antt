@@ -19,7 +19,7 @@ use Rattle.hcc_cache.specs.declared.priority.Priority.TheVariants.{High, Low, Bo
 use Rattle.hcc_c.specs.declared.inserting.Unfit.{Unfit}
 use Rattle.hcc_c.specs.declared.inserting.Unfit.TheVariants as unfit
 use Rattle.hcc_c.specs.declared.refusal.Refusal.{Refusal}
-use Rattle.hcc_c.specs.declared.refusal.Refusal.TheVariants.{NoHandle, NoCharge, TooLong, TooShort, BadPriority, OutOfRange, HandlesFull, Spent, TooLarge, CapacityFull, OccupancyFull, OutOfMemory, BadSlots, BadRoom, BadClients, BadHandles, BadShards, BadCapacity, BadSerials, NoClient, OtherCache, HandlesOut, ClientsOut, GoneFull, TooHigh, BadGone, Untaken}
+use Rattle.hcc_c.specs.declared.refusal.Refusal.TheVariants.{NoHandle, NoCharge, TooLong, TooShort, BadPriority, OutOfRange, HandlesFull, Spent, TooLarge, CapacityFull, OccupancyFull, OutOfMemory, BadSlots, BadRoom, BadClients, BadHandles, BadShards, BadCapacity, BadSerials, NoClient, OtherCache, HandlesOut, ClientsOut, GoneFull, TooHigh, BadGone, Untaken, Shared}
 
 -- the numbers that the header gives
 abbrev pub code_of : Refusal → ℕ
@@ -50,6 +50,7 @@ code_of GoneFull = 41
 code_of TooHigh = 42
 code_of BadGone = 43
 code_of Untaken = 44
+code_of Shared = 46
 
 -- why a cache isn't made
 abbrev pub opening_of : NewError → Refusal

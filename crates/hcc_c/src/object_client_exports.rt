@@ -2,6 +2,7 @@
 //! outputs what the call of the session behind the pointer answered, and comes to what that call
 //! comes to.
 ghost use Rattle.std.specs.Prelude.{◌≡◌, None, IfSome};
+ghost use Rattle.hcc_cache.specs.ObjectsClosed.{untaken_of};
 ghost use Rattle.hcc_c.specs.Answers.{key_or, more_of, status_of, status_of_reref, value_or};
 ghost use Rattle.hcc_c.specs.ObjectAnswers.{full_of, full_of_pinned, gone_key_or, gone_object_or, handle_of_pinned, held_or, placing_of, placing_of_pinned, status_of_gone, status_of_held, status_of_pinned, status_of_put};
 ghost use Rattle.hcc_c.specs.ObjectCalls.{Charges, GivesBack, Hides, PinsAt, Puts, PutsPinned, RefersAgain, TakesGone, TellsCharge, TellsKey, TellsOccupancy, TellsPinned, TellsUsage};
@@ -171,21 +172,26 @@ pub extern "C" fn ferretgold_raw_object_insert_pinned(
     told_put_pinned(answer, placing, list_full, handle)
 }
 
-/// Takes one object off the client's list, with the key of its insertion: its entry was freed.
+/// Takes one object off the client's list, with the key of its insertion: its entry was freed. It
+/// says how many are left there.
 #[unsafe(no_mangle)]
 pub extern "C" fn ferretgold_raw_object_take_gone(
     client: &mut ObjectClientAt,
     key: &mut Key,
     object: &mut CObject,
+    left: &mut usize,
 ) -> u32
     requires { IsWhole client.old.value }
     ensures there { IsThere client.old client.new }
     ensures whole { IsWhole client.new.value }
+    ensures left { left.new ≡ untaken_of client.new.value.client }
     ensures takes { (answer : _) × TakesGone answer client.old.value client.new.value
         × (result ≡ status_of_gone answer) × (key.new ≡ gone_key_or answer key.old)
         × (object.new ≡ gone_object_or answer object.old) }
 {
-    let answer = client.session().take_gone();
+    let session = client.session();
+    let answer = session.take_gone();
+    *left = session.client.untaken();
     told_gone(answer, key, object)
 }
 

@@ -145,7 +145,7 @@ impl ObjectPool {
     fn end_alone(&mut self, alloc: Global) -> Result<ObjectsLeft, Refusal>
         requires whole { IsWholePool self.old }
         requires all { length self.old.back.items ≡ self.old.config.clients }
-        ensures shared { IfErr result (λ e. (e ≡ Refusal.ClientsOut) × (self.new ≡ self.old)) }
+        ensures shared { IfErr result (λ e. (e ≡ Refusal.Shared) × (self.new ≡ self.old)) }
         ensures closed { IfOk result (λ left. Closes left self.old self.old.back.items) }
     {
         let Some(cache) = self.cache.take() else {
@@ -159,7 +159,7 @@ impl ObjectPool {
             }
             Err(cache) => {
                 self.cache = Some(cache);
-                Err(Refusal::ClientsOut)
+                Err(Refusal::Shared)
             }
         }
     }

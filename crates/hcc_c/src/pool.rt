@@ -1,6 +1,7 @@
 //! A cache in the hands of C, which has all its clients from the opening to the closing.
 ghost use Rattle.std.specs.Prelude.{◌≡◌, ◌≤◌, IfOk, IfErr, IsOkUnless, OnErr, length};
 ghost use Rattle.hcc_cache.specs.Closings.{AreBack, IsClosed};
+ghost use Rattle.hcc_cache.specs.Ended.{LeavesWorlds};
 ghost use Rattle.hcc_rule.specs.Views.{Each};
 ghost use Rattle.hcc_c.specs.Pools.{AreFit, BeginsWith, Closes, EndsAs, EndsKept, EndsWith, IsBack, IsSized, IsWholePool, OpensAs, held_in};
 ghost use Rattle.hcc_c.specs.Sessions.{any};
@@ -149,7 +150,7 @@ impl Pool {
     fn end_alone(&mut self, alloc: Global) -> Result<Closed, Refusal>
         requires whole { IsWholePool self.old }
         requires all { self.old.config.clients ≤ length self.old.back.items }
-        ensures shared { IfErr result (λ e. (e ≡ Refusal.ClientsOut) × (self.new ≡ self.old)) }
+        ensures shared { IfErr result (λ e. (e ≡ Refusal.Shared) × (self.new ≡ self.old)) }
         ensures closed { IfOk result (λ closed. Closes closed self.old self.old.back.items) }
     {
         let Some(cache) = self.cache.take() else {
@@ -162,7 +163,7 @@ impl Pool {
             }
             Err(cache) => {
                 self.cache = Some(cache);
-                Err(Refusal::ClientsOut)
+                Err(Refusal::Shared)
             }
         }
     }
@@ -171,7 +172,8 @@ impl Pool {
 /// What is left of a cache whose clients are back, with no handle.
 fn closed(cache: Cache<AnyBytes>, back: Vec<Client<AnyBytes>>) -> Closed
     requires { AreBack cache back.items }
-    ensures { IsClosed any cache back.items result }
+    ensures closes { IsClosed any cache back.items result }
+    ensures left { LeavesWorlds any cache back.items result }
 {
     match cache.close(back) {
         Ok(closed) => closed,

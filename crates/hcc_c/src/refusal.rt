@@ -51,6 +51,8 @@ pub enum Refusal {
     /// Objects that are to be handed back weren't all taken: of a client's list, or of what is left
     /// of a cache.
     Untaken,
+    /// The kit's `Arc` doesn't say that nobody else has the cache, once all its clients are back.
+    Shared,
 }
 
 impl Refusal {
@@ -86,6 +88,7 @@ impl Refusal {
             Refusal::TooHigh => 42,
             Refusal::BadGone => 43,
             Refusal::Untaken => 44,
+            Refusal::Shared => 46,
         }
     }
 

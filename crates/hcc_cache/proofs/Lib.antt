@@ -6,5 +6,6 @@ pub mod Insertions
 pub mod HandedBack
 pub mod Beginnings
 pub mod Within
+pub mod Calm
 pub mod Endings
 pub mod Images

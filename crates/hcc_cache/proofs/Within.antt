@@ -4,4 +4,5 @@ pub mod Hidden
 pub mod Met
 pub mod NeverAgain
 pub mod Taken
+pub mod Short
 pub mod Answered

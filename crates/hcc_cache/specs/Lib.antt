@@ -19,6 +19,7 @@ pub mod Closings
 pub mod Ended
 pub mod Inserts
 pub mod Met
+pub mod Undisturbed
 pub mod ObjectInserts
 pub mod ObjectConfigs
 pub mod ObjectsOpened

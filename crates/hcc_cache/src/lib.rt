@@ -37,6 +37,7 @@ mod seeded;
 pub mod shared;
 mod tags;
 mod totals;
+pub mod undisturbed;
 
 pub use cache::Cache;
 pub use client::Client;

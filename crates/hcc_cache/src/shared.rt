@@ -1,7 +1,7 @@
 //! What calls do in a cache that clients share, whatever others do meanwhile.
 //!
 //! No function here does anything when it runs: its contract is the law.
-ghost use Rattle.std.specs.Prelude.{◌≡◌, ℕ, ◌-◌, ◌^◌, ◌<◌, min, Bool, List, None, Result, Some};
+ghost use Rattle.std.specs.Prelude.{◌≡◌, ◌⊎◌, ℕ, ◌-◌, ◌^◌, ◌<◌, min, Bool, List, None, Result, Some};
 ghost use Rattle.std.specs.declared.alloc.Global.{Global};
 ghost use Rattle.hcc_core.specs.Sums.{total};
 ghost use Rattle.hcc_core.specs.World.{standing_in};
@@ -21,8 +21,9 @@ ghost use Rattle.hcc_cache.specs.Calls.{ErasesListed};
 ghost use Rattle.hcc_cache.specs.Inserts.{draft_of, PinsAtListed, StoresAtListed};
 ghost use Rattle.hcc_cache.specs.Keys.{fits_seeded};
 ghost use Rattle.hcc_cache.specs.Known.{Knows};
-ghost use Rattle.hcc_cache.specs.Met.{MetAs, MetPinnedAs};
+ghost use Rattle.hcc_cache.specs.Met.{MetAs, MetPinnedAs, ShortAs, ShortPinnedAs};
 ghost use Rattle.hcc_cache.specs.Moments.{KnowsShown};
+ghost use Rattle.hcc_cache.specs.Room.{TurnsNone};
 ghost use Rattle.hcc_cache.specs.Sharding.{key_to};
 ghost use Rattle.hcc_cache.specs.Since.{IsTakenBetween};
 ghost use Rattle.hcc_cache.specs.Stays.{BeganEachWithin};
@@ -80,7 +81,8 @@ pub fn law_met<T: Tag>()
     // earlier probe lacked the key. Dropped, though a place was reserved: where it met an entry of
     // the key, the slot where it did so showed that, and each slot of an earlier probe lacked the
     // key; else each slot of the shard lacked it, and was taken. Dropped without a place, or
-    // refused for a place: none was left right before it asked for one.
+    // refused for a place: none was left right before it asked for one. Refused for capacity: its
+    // charge didn't fit right before it was added.
     ensures stores { (cache : Cache T) (key : Key) (charge : ℕ) (priority : Priority)
         (had has : Bool) (answer : Result Stored Refused) (old new : Client T)
         (h : StoresAtListed cache T.fits key charge priority had has answer old new)
@@ -92,5 +94,30 @@ pub fn law_met<T: Tag>()
         (had has : Bool) (answer : Result Pinned Refused) (old new : Client T)
         (h : PinsAtListed cache T.fits key charge priority had has answer old new)
         → MetPinnedAs T.fits h.shard (draft_of cache key charge priority (λ c. Some c.used) old)
+        had has answer h.was h.is h.did }
+{}
+
+/// An insertion evicts only where it found no room. Of one that is refused, or gets no place,
+/// `law_met` says the same.
+///
+/// What others have in hand takes room, too. So where all entries would leave room for one more, an
+/// insertion may evict for what others are about to insert, or have just freed.
+pub fn law_turned<T: Tag>()
+    // It turned the hand no further; or no place was left in the world right before it asked for
+    // one; or its charge didn't fit beside the usage in the world right before it found that: as it
+    // added the charge where the capacity is strict, else as it loaded the usage.
+    ensures stores { (cache : Cache T) (key : Key) (charge : ℕ) (priority : Priority)
+        (had has : Bool) (answer : Result Stored Refused) (old new : Client T)
+        (h : StoresAtListed cache T.fits key charge priority had has answer old new)
+        → TurnsNone h.was h.is
+        ⊎ ShortAs T.fits h.shard (draft_of cache key charge priority (λ c. None) old) had has answer
+        h.was h.is h.did }
+
+    // The same of one that gives a handle.
+    ensures pins { (cache : Cache T) (key : Key) (charge : ℕ) (priority : Priority)
+        (had has : Bool) (answer : Result Pinned Refused) (old new : Client T)
+        (h : PinsAtListed cache T.fits key charge priority had has answer old new)
+        → TurnsNone h.was h.is
+        ⊎ ShortPinnedAs T.fits h.shard (draft_of cache key charge priority (λ c. Some c.used) old)
         had has answer h.was h.is h.did }
 {}

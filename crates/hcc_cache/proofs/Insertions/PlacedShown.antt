@@ -71,7 +71,7 @@ show_builds w next client key0 key1 charge countdown name value reply is =
     )
 
 -- what a client of a lawful world owns is a slot of it
-owned_there : (w : State) → Lawful w → (client slot : ℕ)
+pub owned_there : (w : State) → Lawful w → (client slot : ℕ)
     → owned_at w client ≡ Some (owned.ForBuilding slot)
     → (built : Slot) × (slice_get w.slots slot ≡ Some built)
 owned_there w l client slot owns =
@@ -90,7 +90,7 @@ owned_there w l client slot owns =
     some (Some built) is = (built, refl)
 
 -- what shows an entry is a slot of its world
-shown_within : (w : State) (key : Key) (slot : ℕ) → ShowsKey w key slot → slot < length w.slots
+pub shown_within : (w : State) (key : Key) (slot : ℕ) → ShowsKey w key slot → slot < length w.slots
 shown_within w key slot shows = by (slice_get w.slots slot) refl shows
   where
     by : (o : Option Slot) → slice_get w.slots slot ≡ o

@@ -17,6 +17,7 @@ use Rattle.hcc_table.specs.declared.inserting.Insertion.{Insertion}
 use Rattle.hcc_table.specs.declared.inserting.Insertion.TheVariants.{Placed, Matched, NoSlot}
 use Rattle.hcc_table.specs.Seeking.{GoesOnBy, is_booking}
 use Rattle.hcc_table.specs.Standing.{InsertsShown, ShowsKey, ShowsSame, shown_at}
+use Rattle.hcc_table.specs.Still.{GoesOnStill}
 use Rattle.hcc_table.specs.Tries.{Inserts}
 use Rattle.hcc_table.proofs.Releases.{still_shows}
 use Rattle.hcc_table.proofs.Seeking.{goes_none}
@@ -57,7 +58,7 @@ shows_too : (key : Key) (slot : ℕ) (w v : State) → shown_at v slot ≡ shown
 shows_too key slot w v same shows = subst (λ o. IsSomeAnd o (λ e. key_of e ≡ key)) (sym same) shows
 
 -- An insertion between worlds that show the same as those of the whole call is one of the call.
-inserts_over : (slots : ℕ) (key : Key) (answer : Insertion) (w v u z : State) → ShowsSame w v
+pub inserts_over : (slots : ℕ) (key : Key) (answer : Insertion) (w v u z : State) → ShowsSame w v
     → InsertsShown slots key answer v u → ShowsSame u z → InsertsShown slots key answer w z
 inserts_over slots key (Placed slot) w v u z first h last = record {
   i = h.i;
@@ -151,13 +152,31 @@ module _ {T : Type 0} (fits : T → Key → List ℕ → Type 0) (shard : Shard 
     found_idles_pinned (Err why) did =
         absurd (let is = (found (Err why) did.reserves).0 in let never : ⊥ = cc in never)
 
-  module _ (one : clients_of shard.table ≡ 1)
-      (tells : (answer : Insertion) (before after : Effort) (old new : SeatOf (Seeded T))
+  -- What it leaves of what is shown, where nothing else was shown or taken,
+  abbrev pub LeavesShown : Type 0
+  LeavesShown =
+      (answer : Insertion)
+      (r : ReservedAs (fits_seeded fits) shard draft true true (Ok Reserved) old new)
+      (t : TriesFrom (fits_seeded fits) shard draft r.reserved r.counted answer new)
+      → GoesOnStill shard.table old.seat r.reserved → GoesOnStill shard.table t.done new.seat
+      → InsertsShown (slots_of shard.table) draft.key answer (world_at shard.table old.seat)
+      (world_at shard.table new.seat)
+
+  -- as in a shard of one client,
+  pub leaves_alone : clients_of shard.table ≡ 1
+      → ((answer : Insertion) (before after : Effort) (old new : SeatOf (Seeded T))
       → Inserts (fits_seeded fits) shard.table draft.key draft.serial draft.countdown answer
       before after old new
       → InsertsShown (slots_of shard.table) draft.key answer (world_at shard.table old)
-      (world_at shard.table new))
-      (same : TurnsNone old new) where
+      (world_at shard.table new)) → LeavesShown
+  leaves_alone one tells answer r t first last =
+      inserts_over (slots_of shard.table) draft.key answer (world_at shard.table old.seat)
+      (world_at shard.table r.reserved) (world_at shard.table t.done)
+      (world_at shard.table new.seat) (still_shows shard.table one old.seat r.reserved first)
+      (tells answer r.counted new.effort r.reserved t.done t.inserts)
+      (still_shows shard.table one t.done new.seat last)
+
+  module _ (leaves : LeavesShown) (same : TurnsNone old new) where
     -- and where it turned the hand no further the probes were tried,
     shows_over : (answer : Insertion)
         (r : ReservedAs (fits_seeded fits) shard draft true true (Ok Reserved) old new)
@@ -166,17 +185,11 @@ module _ {T : Type 0} (fits : T → Key → List ℕ → Type 0) (shard : Shard 
         → ShowsOver shard draft answer old new
     shows_over answer r t books = record {
       shows =
-          inserts_over (slots_of shard.table) draft.key answer (world_at shard.table old.seat)
-          (world_at shard.table r.reserved) (world_at shard.table t.done)
-          (world_at shard.table new.seat)
-          (still_shows shard.table one old.seat r.reserved
+          leaves answer r t
           (unturned_still (fits_seeded fits) shard.table draft.charge true true (Ok Reserved)
-          old.tally
-          new.tally old.effort r.counted old.seat r.reserved r.evicts
-          (turns_of (Ok Reserved) r same)))
-          (tells answer r.counted new.effort r.reserved t.done t.inserts)
-          (still_shows shard.table one t.done new.seat
-          (booked_still shard.table t.done new.seat books));
+          old.tally new.tally old.effort r.counted old.seat r.reserved r.evicts
+          (turns_of (Ok Reserved) r same))
+          (booked_still shard.table t.done new.seat books);
       idle =
           keeps_then (view old.seat) (view r.reserved) (view new.seat)
           (unturned (fits_seeded fits) shard.table draft.charge true true (Ok Reserved) old.tally

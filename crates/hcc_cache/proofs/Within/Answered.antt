@@ -1,30 +1,15 @@
 -- What an insertion met, by the answer of its shard.
-use Rattle.std.proofs.Common.{◌≡◌, ℕ, ◌≤◌, Bool, true, false, nat_le, nat_lt, List, ◌++◌, Result, Ok, Err, refl, ap, ◌∙◌}
-use Rattle.std.specs.Prelude.{if◌then◌else◌}
-use Rattle.std.proofs.lemmas.Bool.{le-ltb, leb-true, ltb-false}
+use Rattle.std.proofs.Common.{ℕ, Bool, true, false, List, Result, Ok, Err, arith}
 use Rattle.std.specs.declared.alloc.Global.{Global}
-use Rattle.hcc_core.specs.declared.setup.Setup.{Setup}
-use Rattle.hcc_core.specs.declared.event.Event.TheVariants as events
-use Rattle.hcc_core.specs.declared.event.Reply.TheVariants as replies
-use Rattle.hcc_core.specs.Ledgers.{enter_of}
-use Rattle.hcc_core.specs.Outcomes.{allow, live_at}
-use Rattle.hcc_core.specs.Steps.{outcome_of}
-use Rattle.hcc_core.specs.World.{State, is_absent, limit_of, occupancy_of}
 use Rattle.hcc_rule.specs.declared.key.Key.{Key}
 use Rattle.hcc_rule.specs.declared.steps.shows.Draft.{Draft}
-use Rattle.hcc_rule.specs.declared.table.RuleTable.{RuleTable}
-use Rattle.hcc_rule.specs.Acts.{past, world_of}
-use Rattle.hcc_rule.specs.Callers.{IsEvent, plan_of, world_at}
-use Rattle.hcc_rule.specs.Events.{enter_done, entered}
-use Rattle.hcc_rule.specs.Rule.{setup_of}
-use Rattle.hcc_rule.specs.Seats.{SeatOf, view}
+use Rattle.hcc_rule.specs.Callers.{capacity_of, is_strict}
+use Rattle.hcc_rule.specs.Seats.{SeatOf}
 use Rattle.hcc_table.specs.declared.inserting.Insertion.TheVariants as insertions
-use Rattle.hcc_table.proofs.Shown.{bound, ruled, same_outcome}
 use Rattle.hcc_charge.specs.declared.reserving.Refused.{Refused}
 use Rattle.hcc_charge.specs.declared.reserving.Refused.TheVariants as refused
 use Rattle.hcc_charge.specs.declared.reserving.Reservation.{Reservation}
 use Rattle.hcc_charge.specs.declared.reserving.Reservation.TheVariants.{Reserved, NoPlace}
-use Rattle.hcc_charge.specs.Asked.{is_full}
 use Rattle.hcc_shard.specs.declared.inserting.Inserted.{Inserted as Stored}
 use Rattle.hcc_shard.specs.declared.inserting.Inserted.TheVariants as stored
 use Rattle.hcc_shard.specs.declared.inserting.Pinned.{Pinned}
@@ -34,46 +19,11 @@ use Rattle.hcc_shard.specs.declared.shard.Shard.{Shard}
 use Rattle.hcc_shard.specs.Reserving.{EndsBy, InsertedAs, LeavesOut, PinnedAs, PutsIn, ReservedAs, TriesWhere, left_out, tried_last}
 use Rattle.hcc_cache.specs.declared.seeded.Seeded.{Seeded}
 use Rattle.hcc_cache.specs.Keys.{fits_seeded}
-use Rattle.hcc_cache.specs.Met.{FoundFull, MetAs, MetPinnedAs, MetRefused, MetWhere}
+use Rattle.hcc_cache.specs.Met.{MetAs, MetPinnedAs, MetRefused, MetWhere}
 use Rattle.hcc_cache.specs.Within.{MeetsWithin}
 use Rattle.hcc_cache.proofs.Within.Begun.{GoesOn, on_event, on_same, on_then}
-use Rattle.hcc_cache.proofs.Within.Hidden.{leads_from}
 use Rattle.hcc_cache.proofs.Within.Met.{insertion_met}
-
--- where no place was left none is granted
-entered_full : (w next : State) (setup : Setup) (client taken : ℕ)
-    → outcome_of w (events.Enter client) ≡ Ok (entered setup taken, next)
-    → nat_le (limit_of setup) taken ≡ true → limit_of w.setup ≤ occupancy_of w
-unfolding enter_of
-entered_full w next setup client taken is full =
-    let first = bound (live_at w client) _ _ (ruled w (events.Enter client) _ is) in
-    let second = bound (allow (is_absent first.0.place)) _ _ first.2 in
-    by (nat_lt (occupancy_of w) (limit_of w.setup)) refl
-    (ap (λ z. z.0) (same_outcome _ _ second.2)
-    ∙ ap (λ b. if b then replies.Granted else replies.Open)
-    (le-ltb taken (limit_of setup) (leb-true (limit_of setup) taken full)))
-  where
-    by : (b : Bool) → nat_lt (occupancy_of w) (limit_of w.setup) ≡ b
-        → (if b then replies.Granted else replies.Open) ≡ replies.Open
-        → limit_of w.setup ≤ occupancy_of w
-    by true less reply = cc
-    by false less reply = ltb-false (occupancy_of w) (limit_of w.setup) less
-
-found_full : {T A : Type 0} (table : RuleTable T A) (taken : ℕ) (old asked : SeatOf T)
-    → IsEvent table (enter_done (setup_of (plan_of table)) taken (view old)) old asked
-    → is_full table taken ≡ true → FoundFull table old asked
-found_full table taken old asked event full =
-    let done = enter_done (setup_of (plan_of table)) taken (view old) in
-    record {
-      others = event.0.others;
-      done = done;
-      asks = refl;
-      goes_on = event.0.past;
-      full =
-          entered_full (world_of (plan_of table) (past old ++ event.0.others))
-          (world_at table asked) (setup_of (plan_of table)) (view old).client taken
-          (leads_from table done old asked event) full;
-    }
+use Rattle.hcc_cache.proofs.Within.Short.{found_full, found_tight, lacks_ask}
 
 module _ {T : Type 0} (fits : T → Key → List ℕ → Type 0) (shard : Shard (Seeded T) Global)
     (draft : Draft) (had has : Bool) where
@@ -101,17 +51,22 @@ module _ {T : Type 0} (fits : T → Key → List ℕ → Type 0) (shard : Shard 
       reserves.counted new.effort reserves.reserved tries.done new.seat
       (ended_on keeps Reserved tries.done new.seat ends) (left_out matched) tries.inserts
   met_where keeps NoPlace matched old new reserves tries ends =
-      found_full shard.table reserves.evicts.0.taken old.seat reserves.evicts.0.u
-      reserves.evicts.0.enters_by reserves.evicts.1
+      found_full shard.table reserves.evicts.0.taken reserves.evicts.0.enters_by
+      reserves.evicts.1
 
   met_refused : (why : Refused) (old new : ShardSeat (Seeded T))
       (reserves : ReservedAs (fits_seeded fits) shard draft had has (Err why) old new)
       → MetRefused fits shard draft had has why old new reserves
   met_refused refused.TooLarge old new reserves = tt
-  met_refused refused.CapacityFull old new reserves = tt
+  met_refused refused.CapacityFull old new reserves =
+      let e = reserves.evicts.0 in
+      let freed = reserves.evicts.1 in
+      found_tight shard.table draft.charge e.used e.finds_by
+      (lacks_ask (is_strict shard.table) (capacity_of shard.table) draft.charge e.used
+      (omega arith))
   met_refused refused.OccupancyFull old new reserves =
-      found_full shard.table reserves.evicts.0.taken old.seat reserves.evicts.0.u
-      reserves.evicts.0.enters_by reserves.evicts.1
+      found_full shard.table reserves.evicts.0.taken reserves.evicts.0.enters_by
+      reserves.evicts.1
 
   put_met : (slot : ℕ) (old new : ShardSeat (Seeded T))
       (puts : PutsIn (fits_seeded fits) shard draft had has slot old new)

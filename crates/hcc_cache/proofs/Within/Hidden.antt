@@ -234,16 +234,20 @@ module _ {T A : Type 0} (table : RuleTable T A) where
           ),
         )
 
-    module _ (room : Bool) (all : Erased) (before after : Effort) (old mid new : SeatOf T)
-        (m : HidesAll fits table key name room all before after old mid)
-        (behind : GoesOn table mid new) where
-      -- where no trail went on, no later probe showed the key
-      beyond_lacked : (i : ℕ) → length m.earlier < i → i < slots_of table
+    module _ (room : Bool) (all : Erased) (before after : Effort) (old mid : SeatOf T)
+        (m : HidesAll fits table key name room all before after old mid) where
+      last : Begun table old mid × ((c : SeatOf T) × IsEvent table (count_done
+          (probe_slot (slots_of table) key (0 + length m.earlier))
+          m.last.found.displacement (view c)) c mid)
+      last = last_hid 0 m.earlier m.last before after old mid (inl refl) m.probes
+
+      -- where no trail went on, no later probe shows the key in the end
+      pub beyond_unshown : (i : ℕ) → length m.earlier < i → i < slots_of table
           → m.last.found.displacement ≡ 0
-          → LacksWithin table old new key (probe_slot (slots_of table) key i)
-      beyond_lacked i beyond inside none =
-          held_once table (λ w. ¬ ShowsKey w key (probe_slot (slots_of table) key i)) last.0 behind
-          (λ shows.
+          → ¬ ShowsKey (world_at table mid) key (probe_slot (slots_of table) key i)
+      beyond_unshown i beyond inside none shows =
+          let counts = probe_slot (slots_of table) key (0 + length m.earlier) in
+          let done = count_done counts m.last.found.displacement (view last.1.0) in
           let led = event_leads table done last.1.0 mid last.1.1 in
           let told = count_tells led.0 (world_at table mid) (view last.1.0).client counts
           m.last.found.displacement led.1 in
@@ -252,18 +256,19 @@ module _ {T A : Type 0} (table : RuleTable T A) where
           let some = shown_counted (slots_of table) (world_at table mid) key i
           (0 + length m.earlier) found.0 table.limits.power
           (event_trails table done last.1.0 mid last.1.1) (omega arith) inside found.1 found.2 in
-          absurd (omega arith))
-        where
-          last : Begun table old mid × ((c : SeatOf T) × IsEvent table (count_done
-              (probe_slot (slots_of table) key (0 + length m.earlier))
-              m.last.found.displacement (view c)) c mid)
-          last = last_hid 0 m.earlier m.last before after old mid (inl refl) m.probes
+          absurd (omega arith)
 
-          counts : ℕ
-          counts = probe_slot (slots_of table) key (0 + length m.earlier)
-
-          done : Done
-          done = count_done counts m.last.found.displacement (view last.1.0)
+    module _ (room : Bool) (all : Erased) (before after : Effort) (old mid new : SeatOf T)
+        (m : HidesAll fits table key name room all before after old mid)
+        (behind : GoesOn table mid new) where
+      -- so it lacked the key at a moment
+      beyond_lacked : (i : ℕ) → length m.earlier < i → i < slots_of table
+          → m.last.found.displacement ≡ 0
+          → LacksWithin table old new key (probe_slot (slots_of table) key i)
+      beyond_lacked i beyond inside none =
+          held_once table (λ w. ¬ ShowsKey w key (probe_slot (slots_of table) key i))
+          (last room all before after old mid m).0 behind
+          (beyond_unshown room all before after old mid m i beyond inside none)
 
       pub erased_lacked : (slot : ℕ) → slot < slots_of table → LacksWithin table old new key slot
       erased_lacked slot near =

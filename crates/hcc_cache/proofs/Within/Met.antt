@@ -98,7 +98,7 @@ module _ {T A : Type 0} (fits : T → Key → List ℕ → Type 0) (table : Rule
         passed_begun table fits key name (FindsTaken table) (taken_first table) slot weight word e
         f a b h starts
 
-    pass_lacked : {old new : SeatOf T} → Starts table old a → GoesOn table b new
+    pub pass_lacked : {old new : SeatOf T} → Starts table old a → GoesOn table b new
         → LacksWithin table old new key slot
     pass_lacked starts behind =
         passed_lacked table fits key name (FindsTaken table) (taken_first table) slot weight word e
@@ -147,7 +147,7 @@ module _ {T A : Type 0} (fits : T → Key → List ℕ → Type 0) (table : Rule
       (inr (taken_begun (probe_slot (slots_of table) key i) p e h.0 a h.1 h.2 starts)) h.3
 
   module _ {old new : SeatOf T} where
-    each_met : (i : ℕ) (ps : List ℕ) (e f : Effort) (a b : SeatOf T) → Starts table old a
+    pub each_met : (i : ℕ) (ps : List ℕ) (e f : Effort) (a b : SeatOf T) → Starts table old a
         → GoesOn table b new
         → AtProbes (slots_of table) key (PassesTaken fits table key name weight) i ps e f a b
         → (k : ℕ) → i ≤ k → k < i + length ps
@@ -193,7 +193,7 @@ module _ {T A : Type 0} (fits : T → Key → List ℕ → Type 0) (table : Rule
         (on_then table (on_seeks table (reach_seeks table slot weight name h.word h.mid uses.mid
         uses.reaches.by)) got_on)
 
-    match_shown : {old new : SeatOf T} → Starts table old a → GoesOn table b new
+    pub match_shown : {old new : SeatOf T} → Starts table old a → GoesOn table b new
         → (entry : Entry) × (key_of entry ≡ key) × ShowsWithin table old new slot entry
     match_shown starts behind = (
       shown.0,

@@ -146,7 +146,7 @@ module _ {T : Type 0} (fits : T → Key → List ℕ → Type 0) (cache : Cache 
             (knows.alike.plans (shard_in cache key) shard shard_is).0
 
 -- two lists that go on from one are the same
-same_rest : {X : Type 0} (xs ys zs : List X) → xs ++ ys ≡ xs ++ zs → ys ≡ zs
+pub same_rest : {X : Type 0} (xs ys zs : List X) → xs ++ ys ≡ xs ++ zs → ys ≡ zs
 same_rest [] ys zs same = same
 same_rest (x ∷ xs) ys zs same = let rest : xs ++ ys ≡ xs ++ zs = cc in same_rest xs ys zs rest
 

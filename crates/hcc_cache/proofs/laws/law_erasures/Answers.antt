@@ -1,26 +1,11 @@
-use Rattle.std.proofs.Common.{◌≡◌, ℕ, ap, subst, ◌∙◌, true}
-use Rattle.std.specs.Prelude.{IsSomeAnd}
-use Rattle.hcc_core.specs.World.{State}
+use Rattle.std.proofs.Common.{◌≡◌, ap, subst, ◌∙◌, true}
 use Rattle.hcc_rule.specs.declared.geometry.Geometry.{Geometry}
-use Rattle.hcc_rule.specs.declared.key.Key.{Key}
 use Rattle.hcc_rule.specs.Callers.{clients_of, slots_of, world_at}
-use Rattle.hcc_rule.specs.Words.{key_of}
-use Rattle.hcc_table.specs.Standing.{HidesShown, shown_at}
+use Rattle.hcc_table.specs.Standing.{HidesShown}
 use Rattle.hcc_shard.specs.declared.erasing.TheConstants.{IN_FLIGHT}
 use Rattle.hcc_cache.specs.Sharding.{key_to}
+use Rattle.hcc_cache.proofs.Calm.Hides.{hidden_still}
 use Rattle.hcc_cache.proofs.laws.law_erasures.Goals as goal
-
--- What was hidden stays so where what is shown does.
-hidden_still : (size : ℕ) (key : Key) (n : ℕ) (world mid next : State)
-    → HidesShown size key n world mid → ((s : ℕ) → shown_at next s ≡ shown_at mid s)
-    → HidesShown size key n world next
-hidden_still size key n world mid next h same = record {
-  all = h.all;
-  none = λ slot low shows.
-      h.none slot low (subst (λ o. IsSomeAnd o (λ e. key_of e ≡ key)) (same slot) shows);
-  gone = λ slot shows. same slot ∙ h.gone slot shows;
-  others = λ slot lacks. same slot ∙ h.others slot lacks;
-}
 
 pub returns : goal.returns
 returns g c config tag cache is_of one key hidden old new h =

@@ -16,7 +16,7 @@ use Rattle.hcc_cache.specs.Inserts.{draft_of}
 use Rattle.hcc_cache.specs.Moments.{KnowsShown}
 use Rattle.hcc_cache.specs.Opened.{IsConfigured}
 use Rattle.hcc_cache.specs.Room.{HasRoom, HasRoomBeside}
-use Rattle.hcc_cache.proofs.Insertions.WithoutEviction.{found_beside, found_idles, found_idles_pinned, found_room, inserts_keep, keeps_as, keeps_keys, keeps_pinned_as, keeps_pinned_keys, knows_over}
+use Rattle.hcc_cache.proofs.Insertions.WithoutEviction.{found_beside, found_idles, found_idles_pinned, found_room, inserts_keep, keeps_as, keeps_keys, keeps_pinned_as, keeps_pinned_keys, knows_over, leaves_alone}
 use Rattle.hcc_cache.proofs.laws.law_room.Goals as goal
 
 module _ {T : Type 0} (config : Config) (tag : T) (shard : Shard (Seeded T) Global) {number : ℕ}
@@ -93,9 +93,10 @@ returns-clause-stores g c = λ config tag cache is_of one key charge priority an
     let made = is_of.shards _ h.shard h.shard_is in
     let single = alone config tag h.shard made one in
     let draft = draft_of cache key charge priority (λ c. None) old in
-    keeps_as g.T.Tag.fits h.shard draft h.was h.is single
+    keeps_as g.T.Tag.fits h.shard draft h.was h.is
+    (leaves_alone g.T.Tag.fits h.shard draft h.was h.is single
     (λ told before after was is did. c.law_inserted_alone.ensures h.shard.table draft.key
-    draft.serial draft.countdown told before after was is single did)
+    draft.serial draft.countdown told before after was is single did))
     same answer h.did
 
 pub returns-clause-pins : goal.returns-clause-pins
@@ -103,9 +104,10 @@ returns-clause-pins g c = λ config tag cache is_of one key charge priority answ
     let made = is_of.shards _ h.shard h.shard_is in
     let single = alone config tag h.shard made one in
     let draft = draft_of cache key charge priority (λ c. Some c.used) old in
-    keeps_pinned_as g.T.Tag.fits h.shard draft h.was h.is single
+    keeps_pinned_as g.T.Tag.fits h.shard draft h.was h.is
+    (leaves_alone g.T.Tag.fits h.shard draft h.was h.is single
     (λ told before after was is did. c.law_inserted_alone.ensures h.shard.table draft.key
-    draft.serial draft.countdown told before after was is single did)
+    draft.serial draft.countdown told before after was is single did))
     same answer h.did
 
 pub returns-clause-kept : goal.returns-clause-kept

@@ -19,6 +19,8 @@ returns-in-Ok-of c = record {
       cache = c.in-Ok.made.0;
       clients = c.in-Ok.made.1.items;
       opened = c.in-Ok.ensures.made;
+      began = c.in-Ok.ensures.began;
+      past = c.in-Ok.ensures.past;
       begins = c.in-Ok-of.ensures.begins;
     };
     whole = c.in-Ok-of.ensures.whole;

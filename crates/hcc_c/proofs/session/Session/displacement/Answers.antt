@@ -10,6 +10,7 @@ returns-then-slot-self-clause-tells c =
       reads = search rules;
       entries = search rules;
       loads = rw c.deref.ensures at told.loads;
+      stays = rw c.deref.ensures at told.stays;
       rest = search rules;
       steps = search rules;
     }

@@ -11,6 +11,7 @@ returns-clause-puts c =
       large = search rules;
       inserted = search rules;
       evicts = rw c.deref-2.ensures at told.evicts;
+      shown = rw c.deref-2.ensures at told.shown;
       others = rw c.deref-2.ensures at told.others;
       frees = rw c.deref-2.ensures at told.frees;
       rest = search rules;

@@ -18,6 +18,10 @@ returns-clause-puts c =
         | in-Ok-answer w ↦ rw w.told-is (rw c.deref-2.ensures at w.in-Ok-answer.ensures.evicts)
         | in-Err w ↦ rw w.told-is (rw c.deref-2.ensures at w.in-Err.ensures.evicts)
       ];
+      shown = elim c.match-answer.branch [
+        | in-Ok-answer w ↦ rw w.told-is (rw c.deref-2.ensures at w.in-Ok-answer.ensures.shown)
+        | in-Err w ↦ rw w.told-is (rw c.deref-2.ensures at w.in-Err.ensures.shown)
+      ];
       others = rw c.deref-2.ensures at told.others;
       frees = rw c.deref-2.ensures at told.frees;
       rest = search rules;

@@ -25,6 +25,11 @@ given old new number useful erase None its holds releases gives = tt
 given old new number useful erase (Some freed) its holds releases gives =
     (handle_of (parts_in number), (its, refl, holds), releases, gives)
 
+-- What holds anyhow holds of an answer.
+of_some : {P : Type 0} (answer : Option Bool) → P → IfSome answer (λ freed. P)
+of_some None holds = tt
+of_some (Some freed) holds = holds
+
 pub returns-clause-released : goal.returns-clause-released
 returns-clause-released c =
     let told = c.try_release.ensures in
@@ -36,6 +41,10 @@ returns-clause-released c =
           c.args.c_handle c.args.useful c.args.erase_if_last c.try_release.result parts.1
           (rw parts.0 at told.some) (rw (c.deref.ensures, parts.0) at told.released)
           (rw (c.deref.ensures, parts.0) at told.gives);
+      by = rw (c.deref.ensures, parts.0) at told.by;
+      stays = search rules;
+      standing = of_some c.try_release.result
+          (rw (c.deref.ensures, parts.0) at told.standing);
       counts = rw parts.0 at told.counts;
       rest = search rules;
       steps = search rules;

@@ -14,6 +14,7 @@ returns-in-Ok-clause-again c =
       refused = search rules;
       again = search rules;
       acquires = rw (c.deref.ensures, handle, parts) at told.acquires;
+      stays = rw c.deref.ensures at told.stays;
       counts = rw (handle, parts) at told.counts;
       rest = search rules;
       steps = search rules;

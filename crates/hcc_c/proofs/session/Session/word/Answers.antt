@@ -11,6 +11,7 @@ returns-then-slot-self-clause-tells c =
       view = search rules;
       backs = search rules;
       loads = rw c.deref.ensures at told.loads;
+      stays = rw c.deref.ensures at told.stays;
       counts = told.counts;
       rest = search rules;
       steps = search rules;

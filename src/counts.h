@@ -1,0 +1,32 @@
+/* What a client's calls came to, for any thread to read. Only the thread whose the client is just then
+ * writes there, so that loading a number and storing it anew loses nothing: by relaxed steps, none of
+ * which is locked. */
+#ifndef COUNTS_H
+#define COUNTS_H
+
+#include "ferretgold.h"
+
+static inline void count_more(uint64_t *number) {
+    __atomic_store_n(number, __atomic_load_n(number, __ATOMIC_RELAXED) + 1, __ATOMIC_RELAXED);
+}
+
+/* The same of a number that several threads write. */
+static inline void count_together(uint64_t *number) {
+    (void)__atomic_fetch_add(number, 1, __ATOMIC_RELAXED);
+}
+
+/* What the proved client says that its calls did so far. */
+void count_told(ferretgold_counts *it, const ferretgold_stats *stats);
+
+/* Which number counts an insertion of this status and, where that is OK, outcome, whether it met its key;
+ * null if none does. */
+uint64_t *outcome_of(ferretgold_counts *it, uint32_t status, uint32_t inserted, bool met);
+
+/* Counts an insertion, after which the proved client says this. Whether it met its key. */
+bool count_insertion(ferretgold_counts *it, uint32_t status, uint32_t inserted,
+                     const ferretgold_stats *stats);
+
+/* Adds a client's numbers to a sum of the caller's. */
+void counts_added(const ferretgold_counts *it, ferretgold_counts *sum);
+
+#endif
