@@ -4,7 +4,9 @@
 # leaves each library's statements, with no stamp, for which rt lib would prove them all again. Where
 # that can't be done, or a developer's own libraries stand there, rt lib does it. For another processor
 # all of that lies in a folder TARGET of these two; a developer's own libraries are taken as they are then.
-# Usage: tests/c/library.sh [TARGET]    as aarch64-unknown-linux-gnu
+# Usage: [KEPT=FOLDER] tests/c/library.sh [TARGET]    as aarch64-unknown-linux-gnu
+# With KEPT, what is proved over statements is kept in that folder, and what an earlier run kept there is
+# taken: a function's proof is the same for each processor.
 set -eu -o pipefail
 cd "$(dirname "$0")/../.."
 crates=$PWD/crates
@@ -28,6 +30,7 @@ over_statements() {
     words+=(-L "dependency=$kit/rlibs" --antt-project "$kit/rattle/logic/antt-project.json")
     words+=(--logic-built "$kit/logic_built" --links hcc_c= --crate-type staticlib)
     words+=(--jobs "${JOBS:-$(nproc)}" --toolchain "$kit/toolchain" --backend llvm)
+    [[ -z ${KEPT-} ]] || words+=(--incremental "$KEPT")
     (cd "$crates/hcc_c" && rattle build "${words[@]}" ${target:+--target "$target"} -o "$out/libhcc_c.a")
 }
 
