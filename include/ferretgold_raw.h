@@ -113,6 +113,7 @@ uint32_t ferretgold_raw_held(ferretgold_object *client);
 uint64_t ferretgold_raw_serials_left(ferretgold_object *client);
 bool ferretgold_raw_holds(ferretgold_object *client, const ferretgold_handle *handle);
 void ferretgold_raw_stats(ferretgold_object *client, ferretgold_stats *stats);
+void ferretgold_raw_stats_at(ferretgold_object *client, const ferretgold_key *key, ferretgold_stats *stats);
 void ferretgold_raw_counts(ferretgold_object *client, ferretgold_outcomes *counts);
 
 /* A cache of objects. What an entry stands for is something of the caller's: where it lies, below 2^48,

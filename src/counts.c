@@ -20,6 +20,18 @@ void count_told(ferretgold_counts *it, const ferretgold_stats *stats) {
     tell(&it->lost, stats->lost);
 }
 
+static void rise(uint64_t *number, uint64_t before, uint64_t after) {
+    tell(number, seen(number) + (after - before));
+}
+
+void count_done(ferretgold_counts *it, const ferretgold_stats *before, const ferretgold_stats *after) {
+    rise(&it->evicted, before->evicted, after->evicted);
+    rise(&it->evicted_hit, before->evicted_hit, after->evicted_hit);
+    rise(&it->freed, before->freed, after->freed);
+    rise(&it->turns, before->turns, after->turns);
+    rise(&it->lost, before->lost, after->lost);
+}
+
 /* Where an insertion of so many turns is counted. */
 static uint64_t *class_of(ferretgold_counts *it, uint64_t turns) {
     const uint32_t last = sizeof it->by_turns / sizeof it->by_turns[0] - 1;
@@ -64,14 +76,13 @@ uint64_t *outcome_of(ferretgold_counts *it, uint32_t status, uint32_t inserted, 
  * what else there is (Counted.antt). So `there` is their number, and an insertion that raised it is
  * one of these. */
 bool count_insertion(ferretgold_counts *it, uint32_t status, uint32_t inserted,
-                     const ferretgold_stats *stats) {
-    const bool met = stats->boosts != seen(&it->there);
-    const uint64_t turns = stats->turns - seen(&it->turns);
+                     const ferretgold_stats *before, const ferretgold_stats *after) {
+    const bool met = after->boosts != before->boosts;
     uint64_t *outcome = outcome_of(it, status, inserted, met);
     if (outcome != NULL) {
         count_more(outcome);
-        count_more(class_of(it, turns));
-        count_told(it, stats);
+        count_more(class_of(it, after->turns - before->turns));
+        count_done(it, before, after);
     }
     return met;
 }

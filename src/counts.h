@@ -18,13 +18,17 @@ static inline void count_together(uint64_t *number) {
 /* What the proved client says that its calls did so far. */
 void count_told(ferretgold_counts *it, const ferretgold_stats *stats);
 
+/* What a call did on the shard of its key, by what the proved client says of that before and after. */
+void count_done(ferretgold_counts *it, const ferretgold_stats *before, const ferretgold_stats *after);
+
 /* Which number counts an insertion of this status and, where that is OK, outcome, whether it met its key;
  * null if none does. */
 uint64_t *outcome_of(ferretgold_counts *it, uint32_t status, uint32_t inserted, bool met);
 
-/* Counts an insertion, after which the proved client says this. Whether it met its key. */
+/* Counts an insertion, before and after which the proved client says this of the key's shard. Whether it
+ * met its key. */
 bool count_insertion(ferretgold_counts *it, uint32_t status, uint32_t inserted,
-                     const ferretgold_stats *stats);
+                     const ferretgold_stats *before, const ferretgold_stats *after);
 
 /* Adds a client's numbers to a sum of the caller's. */
 void counts_added(const ferretgold_counts *it, ferretgold_counts *sum);

@@ -358,12 +358,20 @@ static const uint8_t *bytes_of(const void *value, const ferretgold_key *key) {
     return value != NULL ? value : (const void *)key;
 }
 
-/* Ends an insertion: counts what came of it, and tells that. */
-static ferretgold_status inserted_so(ferretgold_client *client, uint32_t status, uint32_t answer,
-                                     ferretgold_inserted *inserted) {
+/* What the client's calls did on the shard of a key. */
+static ferretgold_stats stats_at(ferretgold_client *client, const ferretgold_key *key) {
     ferretgold_stats stats;
-    ferretgold_raw_stats(&client->session, &stats);
-    if (count_insertion(&client->counts, status, answer, &stats) && answer == FERRETGOLD_DROPPED) {
+    ferretgold_raw_stats_at(&client->session, key, &stats);
+    return stats;
+}
+
+/* Ends an insertion of this key: counts what came of it, and tells that. */
+static ferretgold_status inserted_so(ferretgold_client *client, const ferretgold_key *key,
+                                     const ferretgold_stats *before, uint32_t status,
+                                     uint32_t answer, ferretgold_inserted *inserted) {
+    const ferretgold_stats after = stats_at(client, key);
+    if (count_insertion(&client->counts, status, answer, before, &after)
+        && answer == FERRETGOLD_DROPPED) {
         answer = FERRETGOLD_THERE;
     }
     if (inserted != NULL && status == FERRETGOLD_OK) {
@@ -382,10 +390,11 @@ ferretgold_status ferretgold_insert(ferretgold_client *client, const ferretgold_
     if (!ferretgold_enter(client, __func__)) {
         return FERRETGOLD_NO_CLIENT;
     }
+    const ferretgold_stats before = stats_at(client, key);
     const uint32_t status =
         ferretgold_raw_insert(&client->session, key, bytes_of(value, key), length, charge,
                               (uint32_t)priority, &answer);
-    return inserted_so(client, status, answer, inserted);
+    return inserted_so(client, key, &before, status, answer, inserted);
 }
 
 ferretgold_status ferretgold_insert_pinned(ferretgold_client *client, const ferretgold_key *key,
@@ -400,10 +409,11 @@ ferretgold_status ferretgold_insert_pinned(ferretgold_client *client, const ferr
     if (!ferretgold_enter(client, __func__)) {
         return FERRETGOLD_NO_CLIENT;
     }
+    const ferretgold_stats before = stats_at(client, key);
     const uint32_t status =
         ferretgold_raw_insert_pinned(&client->session, key, bytes_of(value, key), length, charge,
                                      (uint32_t)priority, &answer, handle);
-    return inserted_so(client, status, answer, inserted);
+    return inserted_so(client, key, &before, status, answer, inserted);
 }
 
 ferretgold_status ferretgold_erase(ferretgold_client *client, const ferretgold_key *key,
@@ -415,9 +425,11 @@ ferretgold_status ferretgold_erase(ferretgold_client *client, const ferretgold_k
         return FERRETGOLD_NO_CLIENT;
     }
     uint32_t ignored = 0;
+    const ferretgold_stats before = stats_at(client, key);
     const uint32_t status =
         ferretgold_raw_erase(&client->session, key, hidden != NULL ? hidden : &ignored);
-    tell(client);
+    const ferretgold_stats after = stats_at(client, key);
+    count_done(&client->counts, &before, &after);
     return ferretgold_leave(client, status);
 }
 

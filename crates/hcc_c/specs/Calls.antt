@@ -1,5 +1,5 @@
 -- What each call of a client comes to: what it answers, and what it leaves of the session.
-use Rattle.std.specs.Prelude.{◌≡◌, ℕ, ◌+◌, ◌-◌, ◌*◌, ◌/◌, ◌<◌, ◌≤◌, ◌++◌, ◌↔◌, Bool, true, false, List, Option, Result, Ok, Err, IfOk, IfErr, IfSome, IfNone, OnOk, OnErr, IsOk, IsErrOf, IsOkUnless, MatchResult, drop, length, option_map}
+use Rattle.std.specs.Prelude.{◌≡◌, ℕ, ◌+◌, ◌-◌, ◌*◌, ◌/◌, ◌<◌, ◌≤◌, ◌++◌, ◌↔◌, Bool, true, false, List, Option, Some, Result, Ok, Err, IfOk, IfErr, IfSome, IfNone, OnOk, OnErr, IsOk, IsErrOf, IsOkUnless, MatchResult, drop, length, option_map, slice_get}
 use Rattle.std.specs.Arc.{arc_value}
 use Rattle.hcc_core.specs.declared.limits.TheConstants.{OCCUPANCY_PERCENT}
 use Rattle.hcc_rule.specs.declared.key.Key.{Key}
@@ -9,6 +9,7 @@ use Rattle.hcc_rule.specs.Words.{words_for}
 use Rattle.hcc_table.specs.Steps.{freeing}
 use Rattle.hcc_table.specs.declared.optimistic.Got.{Got}
 use Rattle.hcc_shard.specs.Callers.{LoadsDisplacement, LoadsWord}
+use Rattle.hcc_shard.specs.Counted.{stats_of as counts_of}
 use Rattle.hcc_shard.specs.Inserted.{inserting, inserting_between}
 use Rattle.hcc_cache.specs.declared.errors.InsertError.{InsertError}
 use Rattle.hcc_cache.specs.declared.errors.InsertError.TheVariants as insert
@@ -31,9 +32,10 @@ use Rattle.hcc_c.specs.declared.inserting.Unfit.TheVariants as reason
 use Rattle.hcc_c.specs.declared.session.Session.{Session}
 use Rattle.hcc_c.specs.declared.shapes.Counts.{Counts}
 use Rattle.hcc_c.specs.declared.shapes.CHandle.{CHandle}
+use Rattle.hcc_c.specs.declared.shapes.Stats.{Stats}
 use Rattle.hcc_c.specs.Counts.{counted_get, counted_insert, counted_look, counted_pinned}
 use Rattle.hcc_c.specs.Sessions.{IsHandle, IsNone, any, handle_in, judged}
-use Rattle.hcc_c.specs.Shapes.{c_handle_of}
+use Rattle.hcc_c.specs.Shapes.{c_handle_of, stats_of}
 
 -- Nothing of the session changed but its client.
 abbrev pub KeepsRest : (old new : Session) → Type 0
@@ -325,3 +327,9 @@ module _ (shard slot : ℕ) where
     pub stays : IfSome answer (λ _. Stays (arc_value old.cache) old.client new.client)
     pub rest : KeepsRest old new
     pub steps : TakesAtMost 1 old.client new.client
+
+-- What the client's calls did on the shard where a key belongs.
+abbrev pub TellsStats : Key → Stats → Session → Type 0
+TellsStats key answer session = (seat : _)
+    × (slice_get session.client.seats.items (shard_in (arc_value session.cache) key) ≡ Some seat)
+    × (answer ≡ stats_of (counts_of seat))

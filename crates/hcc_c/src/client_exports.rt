@@ -4,7 +4,7 @@ ghost use Rattle.std.specs.Prelude.{◌≡◌, None, IfSome, true, false};
 ghost use Rattle.hcc_cache.specs.Clients.{held_by};
 ghost use Rattle.hcc_cache.specs.Totals.{no_stats, stats_over};
 ghost use Rattle.hcc_c.specs.Answers.{handle_of_pinned, inserted_of, inserted_of_pinned, key_or, length_got, length_of, more_of, c_handle_after, status_of, status_of_got, status_of_insert, status_of_look, status_of_pinned, status_of_read, status_of_reref, value_or};
-ghost use Rattle.hcc_c.specs.Calls.{GetsValue, GivesBack, Hides, LooksUp, Puts, PutsPinned, ReadsValue, RefersAgain, TellsDisplacement, TellsHandle, TellsKey, TellsLength, TellsOccupancy, TellsPinned, TellsUsage, TellsWord};
+ghost use Rattle.hcc_c.specs.Calls.{GetsValue, GivesBack, Hides, LooksUp, Puts, PutsPinned, ReadsValue, RefersAgain, TellsDisplacement, TellsHandle, TellsKey, TellsLength, TellsOccupancy, TellsPinned, TellsStats, TellsUsage, TellsWord};
 ghost use Rattle.hcc_c.specs.Lending.{IsThere};
 ghost use Rattle.hcc_c.specs.Refusals.{code_of, priority_of};
 ghost use Rattle.hcc_c.specs.Sessions.{IsHandle, IsNone, IsWhole};
@@ -339,6 +339,16 @@ pub extern "C" fn ferretgold_raw_stats(client: &mut ClientObject, stats: &mut St
     ensures stats { stats.new ≡ stats_of (stats_over no_stats client.old.value.client.seats.items) }
 {
     *stats = client.session().stats();
+}
+
+#[unsafe(no_mangle)]
+pub extern "C" fn ferretgold_raw_stats_at(client: &mut ClientObject, key: &Key, stats: &mut Stats)
+    requires { IsWhole client.old.value }
+    ensures there { IsThere client.old client.new }
+    ensures same { client.new.value ≡ client.old.value }
+    ensures stats { TellsStats (key_of key.now) stats.new client.old.value }
+{
+    *stats = client.session().stats_at(key.key());
 }
 
 #[unsafe(no_mangle)]

@@ -2,7 +2,7 @@
 ghost use Rattle.std.specs.Prelude.{◌≡◌, true, false};
 ghost use Rattle.hcc_cache.specs.Clients.{held_by};
 ghost use Rattle.hcc_cache.specs.Totals.{no_stats, stats_over};
-ghost use Rattle.hcc_c.specs.Calls.{TellsDisplacement, TellsOccupancy, TellsPinned, TellsUsage, TellsWord};
+ghost use Rattle.hcc_c.specs.Calls.{TellsDisplacement, TellsOccupancy, TellsPinned, TellsStats, TellsUsage, TellsWord};
 ghost use Rattle.hcc_c.specs.Sessions.{IsHandle, IsNone, IsWhole};
 ghost use Rattle.hcc_c.specs.Shapes.{stats_of};
 
@@ -101,6 +101,14 @@ impl Session {
         ensures { result ≡ stats_of (stats_over no_stats self.now.client.seats.items) }
     {
         Stats::counts(self.client.stats())
+    }
+
+    /// What its calls did on the shard where a key belongs.
+    pub fn stats_at(&self, key: hcc_cache::Key) -> Stats
+        requires { IsWhole self.now }
+        ensures { TellsStats key result self.now }
+    {
+        Stats::counts(self.cache.stats_at(&self.client, key))
     }
 
     /// What its look-ups and insertions came to.

@@ -1,12 +1,14 @@
 //! Totals of a cache, and words of its shards.
-ghost use Rattle.std.specs.Prelude.{◌≡◌, ◌+◌, ◌-◌, ◌*◌, ◌/◌, ◌^◌, ◌<◌, ◌≤◌, true, ℕ, length};
+ghost use Rattle.std.specs.Prelude.{◌≡◌, ◌+◌, ◌-◌, ◌*◌, ◌/◌, ◌^◌, ◌<◌, ◌≤◌, true, ℕ, Some, length, slice_get};
 ghost use Rattle.hcc_core.specs.declared.limits.TheConstants.{OCCUPANCY_PERCENT};
 ghost use Rattle.hcc_rule.specs.Looked.{after_look, Backs};
 ghost use Rattle.hcc_rule.specs.ToldTrails.{passed_held};
 ghost use Rattle.hcc_shard.specs.Callers.{LoadsDisplacement, LoadsOccupancy, LoadsWord};
-ghost use Rattle.hcc_shard.specs.Counted.{LoadsUsage};
+ghost use Rattle.hcc_shard.specs.Counted.{stats_of, LoadsUsage};
+ghost use Rattle.hcc_shard.specs.declared.seat.ShardSeat.{ShardSeat};
 ghost use Rattle.hcc_cache.specs.Alones.{AreAlone};
-ghost use Rattle.hcc_cache.specs.Calls.{AtShard, CountsNone, KeepsAll, OnlyAt, Reads, TakesAtMost, Works};
+ghost use Rattle.hcc_cache.specs.declared.seeded.Seeded.{Seeded};
+ghost use Rattle.hcc_cache.specs.Calls.{shard_in, AtShard, CountsNone, KeepsAll, OnlyAt, Reads, TakesAtMost, Works};
 ghost use Rattle.hcc_cache.specs.Clients.{view_at};
 ghost use Rattle.hcc_cache.specs.Known.{Knows};
 ghost use Rattle.hcc_cache.specs.Stays.{Stays};
@@ -17,7 +19,7 @@ ghost use Rattle.hcc_table.specs.Searched.{Sought};
 
 use crate::cache::Cache;
 use crate::client::Client;
-use hcc_rule::Tag;
+use hcc_rule::{Key, Tag};
 use hcc_shard::Stats;
 
 impl<T: Tag> Cache<T> {
@@ -216,6 +218,20 @@ impl<T: Tag> Cache<T> {
         let shard = shard as usize;
         let seat = &mut client.seats[shard];
         self.shards[shard].displacement(seat, slot)
+    }
+
+    /// What a client's calls did on the shard where a key belongs.
+    ///
+    /// It refuses nothing, allocates nothing and makes no atomic step. It costs what finding the
+    /// key's shard costs.
+    pub fn stats_at(&self, client: &Client<T>, key: Key) -> Stats
+        requires { Knows self.now client.now }
+        ensures { (seat : ShardSeat (Seeded T))
+            × (slice_get client.now.seats.items (shard_in self.now key) ≡ Some seat)
+            × (result ≡ stats_of seat) }
+    {
+        let shard = self.shard_number(self.key_to(client, key));
+        client.seats[shard].stats()
     }
 }
 
