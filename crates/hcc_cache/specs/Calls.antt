@@ -20,6 +20,7 @@ use Rattle.hcc_table.specs.Lists.{Hands, Shelf}
 use Rattle.hcc_shard.specs.Callers.{AcquiresAt, ErasesAt, GivesBackAt, SearchesAt, steps_of, view_of}
 use Rattle.hcc_shard.specs.Counted.{SameEvictions, stats_of}
 use Rattle.hcc_shard.specs.Referred.{IsErasedAll, IsReleased}
+use Rattle.hcc_shard.specs.Stays.{SeeksAt as ReadsOn}
 use Rattle.hcc_cache.specs.declared.cache.Cache.{Cache}
 use Rattle.hcc_cache.specs.declared.client.Client.{Client}
 use Rattle.hcc_cache.specs.declared.handle.Handle.{Handle}
@@ -154,6 +155,15 @@ module _ {T : Type 0} (cache : Cache T) where
       AtShard (λ shard was is. (pin : Option Pin) × (is_some pin ≡ is_some found)
       × SearchesAt (fits_seeded fits) shard (key_to cache.seed key) old.used pin was is)
       (shard_in key) old new
+
+  -- So it was, and then some words were read of what was found.
+  abbrev pub SearchesReadingFor : (fits : T → Key → List ℕ → Type 0) → Key → Option Handle
+      → (old new : Client T) → Type 0
+  SearchesReadingFor fits key found old new =
+      AtShard (λ shard was is. (pin : Option Pin) × (looked : ShardSeat (Seeded T))
+      × (is_some pin ≡ is_some found)
+      × SearchesAt (fits_seeded fits) shard (key_to cache.seed key) old.used pin was looked
+      × ReadsOn shard looked is) (shard_in key) old new
 
   -- The key was erased in its shard: what was found and hidden at each probe, so many in all, where
   -- the list of what is freed has room in the end, or not.

@@ -43,7 +43,7 @@ ghost use Rattle.hcc_cache.specs.declared.inserting.Inserted.TheVariants.{Placed
 ghost use Rattle.hcc_cache.specs.declared.priority.Priority.{Priority};
 ghost use Rattle.hcc_cache.specs.declared.seeded.Seeded.{Seeded};
 ghost use Rattle.hcc_cache.specs.declared.holding.Hold.{Hold};
-ghost use Rattle.hcc_cache.specs.Calls.{shard_in, ErasesFor, Gains, OnlyAt, SearchesFor};
+ghost use Rattle.hcc_cache.specs.Calls.{shard_in, ErasesFor, Gains, OnlyAt, SearchesFor, SearchesReadingFor};
 ghost use Rattle.hcc_cache.specs.Clients.{view_at, Held, Holds};
 ghost use Rattle.hcc_cache.specs.Configs.{shard_capacity};
 ghost use Rattle.hcc_shard.specs.Gets.{GotLasting};
@@ -236,6 +236,23 @@ pub fn law_lookups<T: Tag>()
     ensures pinned_unread { (cache : Cache T) → BeganEachWithin cache T.fits → (key : Key)
         (useful : Bool) (before after : List ℕ) (old new : Client T) → Knows cache old
         → GetsAt cache T.fits key useful Miss before after old new
+        → (k : KnowsShown cache key old) (g : GoesOnAt (shard_in cache key) old new)
+        → IsHeldThrough cache key old k g.more → IsHiddenByOther cache key old new k }
+
+    // A look-up that reads on, as one of an object does, finds what stands until it reads,
+    ensures lasting_read { (cache : Cache T) (key : Key) (found : Option Handle)
+        (old new : Client T) (h : SearchesReadingFor cache T.fits key found old new)
+        → FindsLasting h.shard.table (key_to cache.seed key) old.used h.did.0 h.was.seat
+        h.did.1.seat }
+
+    // and what it misses was taken, or hidden, as above.
+    ensures taken_read { (cache : Cache T) → BeganEachWithin cache T.fits → (key : Key)
+        (old new : Client T) → Knows cache old
+        → SearchesReadingFor cache T.fits key None old new
+        → (k : KnowsShown cache key old) → IsTakenByOther cache key old new k }
+    ensures pinned_read { (cache : Cache T) → BeganEachWithin cache T.fits → (key : Key)
+        (old new : Client T) → Knows cache old
+        → SearchesReadingFor cache T.fits key None old new
         → (k : KnowsShown cache key old) (g : GoesOnAt (shard_in cache key) old new)
         → IsHeldThrough cache key old k g.more → IsHiddenByOther cache key old new k }
 

@@ -1,10 +1,10 @@
 //! Look-ups, and more handles on what is held.
-ghost use Rattle.std.specs.Prelude.{◌≡◌, ◌+◌, ◌*◌, ◌<◌, ◌≤◌, ◌↔◌, ℕ, List, IfSome, IfNone, IfOk, OnErr, IsErrOf, Some, length};
+ghost use Rattle.std.specs.Prelude.{◌≡◌, ◌+◌, ◌*◌, ◌<◌, ◌≤◌, ◌↔◌, ℕ, List, IfSome, IfNone, IfOk, OnErr, IsErrOf, Some, length, option_map};
 ghost use Rattle.hcc_rule.specs.declared.key.Key.{Key};
 ghost use Rattle.hcc_rule.specs.Words.{payload_word};
 ghost use Rattle.hcc_shard.specs.Callers.{AcquiresAt};
 ghost use Rattle.hcc_cache.specs.declared.holding.Kept.TheVariants.{Pinned, Standing};
-ghost use Rattle.hcc_cache.specs.Calls.{AcquiresFor, AtShard, CountsAt, CountsBy, CountsNone, Finds, Misses, Rerefs, SearchesFor, TakesAtMost, TakesFor, shard_in};
+ghost use Rattle.hcc_cache.specs.Calls.{AcquiresFor, AtShard, CountsAt, CountsBy, CountsNone, Finds, Misses, Rerefs, SearchesFor, SearchesReadingFor, TakesAtMost, TakesFor, shard_in};
 ghost use Rattle.hcc_cache.specs.Alones.{AreAlone};
 ghost use Rattle.hcc_cache.specs.Clients.{held_by, hold_of, Holds, IsPinOf};
 ghost use Rattle.hcc_cache.specs.Keys.{key_from};
@@ -101,6 +101,13 @@ impl<T: Tag> Cache<T> {
             × (found.1 ≡ payload_word finds.found.entry.value 0))) }
         ensures missed { IfOk result (λ o. IfNone o
             (Misses self.now key client.old client.new)) }
+        ensures searched { IfOk result (λ o. SearchesReadingFor self.now T.fits key
+            (option_map (λ found. found.0) o) client.old client.new) }
+        ensures stays { Stays self.now client.old client.new }
+        ensures counts { IfOk result (λ _. CountsAt (shard_in self.now key)
+            client.old client.new) }
+        ensures visits { IfOk result (λ _. TakesFor self.now 7 (λ v w. 1)
+            (shard_in self.now key) client.old client.new) }
         ensures alone { AreAlone client.old client.new }
         ensures steps { TakesAtMost (7 * self.now.geometry.slots + 1) client.old client.new }
     {

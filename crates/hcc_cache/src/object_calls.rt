@@ -1,10 +1,10 @@
 //! What clients do in a cache of objects.
-ghost use Rattle.std.specs.Prelude.{◌≡◌, ◌+◌, ◌*◌, ◌<◌, ◌↔◌, ◌&&◌, true, IfNone, IfOk, IfSome, IsErrOf, OnErr};
+ghost use Rattle.std.specs.Prelude.{◌≡◌, ◌+◌, ◌*◌, ◌<◌, ◌↔◌, ◌&&◌, false, true, IfNone, IfOk, IfSome, IsErrOf, OnErr, option_map};
 ghost use Rattle.hcc_cache.specs.declared.holding.Kept.TheVariants.{Standing};
-ghost use Rattle.hcc_cache.specs.Calls.{CountsAt, ErasesListed, Erases, Finds, GivesUpWith, HandsAt, Misses, Releases, Rerefs, TakesAtMost, shard_in};
+ghost use Rattle.hcc_cache.specs.Calls.{AcquiresFor, CountsAt, CountsBy, CountsNone, ErasesListed, Erases, Finds, GivesUpWith, HandsAt, Misses, Releases, Rerefs, SearchesReadingFor, TakesAtMost, TakesFor, shard_in};
 ghost use Rattle.hcc_cache.specs.Clients.{Holds, held_by, hold_of};
 ghost use Rattle.hcc_cache.specs.Objects.{HandsBack, KnowsObjects, is_word, object_bytes, shelf_of};
-ghost use Rattle.hcc_cache.specs.Stays.{ReleasesWith};
+ghost use Rattle.hcc_cache.specs.Stays.{ReleasesWith, Stays, StaysWhereStanding};
 ghost use Rattle.hcc_table.specs.Lists.{has_room};
 ghost use Rattle.hcc_table.specs.Steps.{freeing};
 
@@ -40,6 +40,13 @@ impl ObjectCache {
             × (finds.found.entry.value ≡ object_bytes found.1))) }
         ensures missed { IfOk result (λ o. IfNone o
             (Misses self.now.cache key client.old.client client.new.client)) }
+        ensures searched { IfOk result (λ o. SearchesReadingFor self.now.cache is_word key
+            (option_map (λ found. found.0) o) client.old.client client.new.client) }
+        ensures stays { Stays self.now.cache client.old.client client.new.client }
+        ensures counts { IfOk result (λ _. CountsAt (shard_in self.now.cache key)
+            client.old.client client.new.client) }
+        ensures visits { IfOk result (λ _. TakesFor self.now.cache 7 (λ v w. 1)
+            (shard_in self.now.cache key) client.old.client client.new.client) }
         ensures list { client.new.gone ≡ client.old.gone }
         ensures steps { TakesAtMost (7 * self.now.cache.geometry.slots + 1)
             client.old.client client.new.client }
@@ -63,6 +70,10 @@ impl ObjectCache {
         ensures refused { OnErr result (client.new ≡ client.old) }
         ensures again { IfOk result (λ more.
             Rerefs self.now.cache handle more client.old.client client.new.client) }
+        ensures acquires { IfOk result (λ _. AcquiresFor self.now.cache handle
+            client.old.client client.new.client) }
+        ensures stays { Stays self.now.cache client.old.client client.new.client }
+        ensures counts { IfOk result (λ _. CountsBy handle client.old.client client.new.client) }
         ensures list { client.new.gone ≡ client.old.gone }
         ensures steps { TakesAtMost 2 client.old.client client.new.client }
     {
@@ -95,6 +106,11 @@ impl ObjectCache {
             erase_if_last result client.old.client client.new.client }
         ensures by { ReleasesWith self.now.cache (has_room 1 (shelf_of client.old)) handle useful
             erase_if_last result client.old.client client.new.client }
+        ensures stays { result ≡ false
+            → Stays self.now.cache client.old.client client.new.client }
+        ensures standing { StaysWhereStanding self.now.cache handle client.old.client
+            client.new.client }
+        ensures counts { CountsBy handle client.old.client client.new.client }
         ensures steps { TakesAtMost (freeing self.now.cache.geometry.slots + 4)
             client.old.client client.new.client }
     {
@@ -124,6 +140,8 @@ impl ObjectCache {
         ensures released { (erase : _) → Releases self.now.cache handle erase result
             client.old.client client.new.client }
         ensures list { HandsBack self.now handle result client.old client.new }
+        ensures stays { Stays self.now.cache client.old.client client.new.client }
+        ensures counts { CountsNone client.old.client client.new.client }
         ensures steps { TakesAtMost 2 client.old.client client.new.client }
     {
         let alone = &client.client.alone[index];

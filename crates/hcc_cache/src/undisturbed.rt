@@ -25,7 +25,7 @@ ghost use Rattle.hcc_cache.specs.declared.config.Config.{Config};
 ghost use Rattle.hcc_cache.specs.declared.handle.Handle.{Handle};
 ghost use Rattle.hcc_cache.specs.declared.priority.Priority.{Priority};
 ghost use Rattle.hcc_cache.specs.declared.seeded.Seeded.{Seeded};
-ghost use Rattle.hcc_cache.specs.Calls.{shard_in, ErasesListed, OnlyAt, SearchesFor};
+ghost use Rattle.hcc_cache.specs.Calls.{shard_in, ErasesListed, OnlyAt, SearchesFor, SearchesReadingFor};
 ghost use Rattle.hcc_cache.specs.Gets.{GetsAt};
 ghost use Rattle.hcc_cache.specs.Inserts.{draft_of, PinsAt, ShowsAs, ShowsPinnedAs, StoresAt};
 ghost use Rattle.hcc_cache.specs.Known.{Knows};
@@ -66,6 +66,20 @@ pub fn law_undisturbed_lookups<T: Tag>()
         → (h : GetsAt cache T.fits key useful got before after old new)
         → IsUndisturbed old.number h.was.seat h.is.seat
         → (got ≡ Miss) ↔ ((slot : ℕ) → slot < cache.geometry.slots
+        → ¬ ShowsKey (world_at h.shard.table h.was.seat) (key_to cache.seed key) slot) }
+
+    // So it is of a look-up that reads on, as one of an object does.
+    ensures first_read { (cache : Cache T) → BeganEachWithin cache T.fits → (key : Key)
+        (found : Option Handle) (old new : Client T) → Knows cache old
+        → (h : SearchesReadingFor cache T.fits key found old new)
+        → IsUndisturbed old.number h.was.seat h.is.seat
+        → FindsFirst h.shard.table (key_to cache.seed key) (world_at h.shard.table h.was.seat)
+        h.did.0 }
+    ensures misses_read { (cache : Cache T) → BeganEachWithin cache T.fits → (key : Key)
+        (found : Option Handle) (old new : Client T) → Knows cache old
+        → (h : SearchesReadingFor cache T.fits key found old new)
+        → IsUndisturbed old.number h.was.seat h.is.seat
+        → IsNone found ↔ ((slot : ℕ) → slot < cache.geometry.slots
         → ¬ ShowsKey (world_at h.shard.table h.was.seat) (key_to cache.seed key) slot) }
 
     // What the client knows to be there is found.

@@ -22,7 +22,9 @@ use Rattle.hcc_rule.proofs.Parts.ViewParts.{names_own}
 use Rattle.hcc_rule.proofs.Seats.StaysShown.{knows_still, others_took}
 use Rattle.hcc_table.specs.declared.pins.Pin.{Pin}
 use Rattle.hcc_table.specs.Optimistic.{LacksAll}
-use Rattle.hcc_table.specs.Standing.{FindsLasting, ShowsKey, shown_at}
+use Rattle.hcc_rule.specs.declared.table.RuleTable.{RuleTable}
+use Rattle.hcc_table.specs.Seeking.{Seeks}
+use Rattle.hcc_table.specs.Standing.{FindsLasting, LacksOnce, ShowsKey, shown_at}
 use Rattle.hcc_table.specs.Still.{GoesOnStill, is_still}
 use Rattle.hcc_table.proofs.Moments.{some_and}
 use Rattle.hcc_table.proofs.Seeking.{goes_none, seeks_one, seeks_then}
@@ -64,6 +66,31 @@ taken_more more later t = record {
   takes = t.takes;
   gone = t.gone;
 }
+
+-- A moment of a call at which a slot lacked a key is one of a call that read on behind it.
+lacks_on : {T A : Type 0} (table : RuleTable T A) (key : Key) (slot : ℕ) (a b c : SeatOf T)
+    → LacksOnce table key slot a b → Seeks table b c → LacksOnce table key slot a c
+lacks_on table key slot a b c once reads =
+    let m = once.1 in
+    let on = seeks_still table b c reads in (
+      once.0,
+      record {
+        before = m.before;
+        done = m.done;
+        began = m.began;
+        step = m.step;
+        seeking = m.seeking;
+        own = m.own;
+        rest = seeks_then table once.0 b c m.rest reads;
+        since = m.since;
+        begins = m.begins;
+        later = m.later ++ on.more;
+        goes_on =
+            on.goes_on ∙ ap (λ xs. xs ++ on.more) m.goes_on
+            ∙ append_assoc (past once.0) m.later on.more;
+      },
+      once.2,
+    )
 
 module _ {T : Type 0} (fits : T → Key → List ℕ → Type 0) (cache : Cache T)
     (began : BeganEachWithin cache fits) (key : Key) (old : Client T)
@@ -222,3 +249,13 @@ module _ {T : Type 0} (fits : T → Key → List ℕ → Type 0) (cache : Cache 
             → IsTakenByOther cache key old new k
         none_taken name None none found = missed_taken found
         none_taken name (Some pin) none found = cc
+
+        -- So is one that read on then.
+        pub read_taken : (name : ℕ) (pin : Option Pin) (looked : ShardSeat (Seeded T))
+            → is_some pin ≡ false
+            → FindsLasting shard.table (key_to cache.seed key) name pin was.seat looked.seat
+            → Seeks shard.table looked.seat is.seat → IsTakenByOther cache key old new k
+        read_taken name None looked none found reads =
+            missed_taken (λ slot near. lacks_on shard.table (key_to cache.seed key) slot was.seat
+            looked.seat is.seat (found slot near) reads)
+        read_taken name (Some pin) looked none found reads = cc

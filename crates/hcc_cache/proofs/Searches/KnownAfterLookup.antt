@@ -17,13 +17,14 @@ use Rattle.hcc_shard.specs.declared.shard.Shard.{Shard}
 use Rattle.hcc_shard.specs.Callers.{geometry_of, view_of, SearchesAt}
 use Rattle.hcc_shard.specs.Seated.{Rests}
 use Rattle.hcc_shard.proofs.Names.{above_later}
+use Rattle.hcc_shard.specs.Stays.{SeeksAt as ReadsOn}
 use Rattle.hcc_cache.specs.declared.cache.Cache.{Cache}
 use Rattle.hcc_cache.specs.declared.client.Client.{Client}
 use Rattle.hcc_cache.specs.declared.handle.Handle.{Handle}
 use Rattle.hcc_cache.specs.declared.holding.Hold.{Hold}
 use Rattle.hcc_cache.specs.declared.holding.Kept.TheVariants.{Pinned}
 use Rattle.hcc_cache.specs.declared.seeded.Seeded.{Seeded}
-use Rattle.hcc_cache.specs.Calls.{Finds, Gains, KeepsAll, Misses, SearchesFor, TakesAtMost, TakesFor, UsesNone, Works, shard_in}
+use Rattle.hcc_cache.specs.Calls.{Finds, Gains, KeepsAll, Misses, SearchesFor, SearchesReadingFor, TakesAtMost, TakesFor, UsesNone, Works, shard_in}
 use Rattle.hcc_cache.specs.Clients.{held_entry, pin_of}
 use Rattle.hcc_cache.specs.Keys.{fits_seeded, key_from, tag_at}
 use Rattle.hcc_cache.specs.Sharding.{key_to, shard_of}
@@ -149,13 +150,13 @@ module _ {T : Type 0} where
         takes_at cache old new i shard was is at change (7 * cache.geometry.slots) (omega arith)
 
     -- The slots that it visited are counted.
-    pub visits_at : (key : Key) → i ≡ shard_in cache key
-        → MakesFor 7 0 (geometry_of shard).slots was.effort is.effort was.seat is.seat
-        → TakesFor cache 7 (λ v w. 0) (shard_in cache key) old new
-    visits_at key there makes =
+    pub visits_at : (more : ℕ) (key : Key) → i ≡ shard_in cache key
+        → MakesFor 7 more (geometry_of shard).slots was.effort is.effort was.seat is.seat
+        → TakesFor cache 7 (λ v w. more) (shard_in cache key) old new
+    visits_at more key there makes =
         let alike = at.knows.alike.plans i shard at.shard_is in
-        takes_for cache old new i shard was is at change 7 0 (λ v w. 0) (shard_in cache key) there
-        (rw (← alike.0) makes) (omega arith)
+        takes_for cache old new i shard was is at change 7 more (λ v w. more) (shard_in cache key)
+        there (rw (← alike.0) makes) (omega arith)
 
     -- It says what it found at each probe.
     pub searched_at : (fits : T → Key → List ℕ → Type 0) (key : Key) (found : Option Handle)
@@ -167,6 +168,18 @@ module _ {T : Type 0} where
         (λ s a b. (p : Option Pin) × (is_some p ≡ is_some found)
         × SearchesAt (fits_seeded fits) s (key_to cache.seed key) old.used p a b)
         (pin, same, searches) (shard_in cache key) there
+
+    -- So it does where it reads on.
+    pub searched_reading_at : (fits : T → Key → List ℕ → Type 0) (key : Key) (found : Option Handle)
+        → i ≡ shard_in cache key → (pin : Option Pin) (looked : ShardSeat (Seeded T))
+        → is_some pin ≡ is_some found
+        → SearchesAt (fits_seeded fits) shard (key_to cache.seed key) old.used pin was looked
+        → ReadsOn shard looked is → SearchesReadingFor cache fits key found old new
+    searched_reading_at fits key found there pin looked same searches reads =
+        did_at cache old new i shard was is at change
+        (λ s a b. (p : Option Pin) × (l : ShardSeat (Seeded T)) × (is_some p ≡ is_some found)
+        × SearchesAt (fits_seeded fits) s (key_to cache.seed key) old.used p a l × ReadsOn s l b)
+        (pin, looked, same, searches, reads) (shard_in cache key) there
 
     -- A look-up found none.
     pub misses : (key : Key) → IsLeft old new → i ≡ shard_in cache key

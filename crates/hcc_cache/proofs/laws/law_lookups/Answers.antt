@@ -14,7 +14,7 @@ use Rattle.hcc_shard.specs.declared.shard.Shard.{Shard}
 use Rattle.hcc_shard.specs.Gets.{GotLasting, GotShown}
 use Rattle.hcc_shard.proofs.Gettings.{gets_lasting}
 use Rattle.hcc_cache.specs.Sharding.{key_to}
-use Rattle.hcc_cache.proofs.Clients.ShownSince.{missed_taken, none_taken}
+use Rattle.hcc_cache.proofs.Clients.ShownSince.{missed_taken, none_taken, read_taken}
 use Rattle.hcc_cache.proofs.Searches.FoundAsMade.{handle_made}
 use Rattle.hcc_cache.proofs.Within.Taken.{hidden_by_other}
 use Rattle.hcc_cache.proofs.laws.law_lookups.Goals as goal
@@ -127,6 +127,22 @@ returns-clause-untold g c = λ cache began key useful before after old new knows
     missed_taken g.T.Tag.fits cache began key old k new knows h.shard h.was h.is h.shard_is
     h.seat_was h.seat_is
     (gets_lasting _ h.shard (key_to cache.seed key) useful Miss before after h.was h.is h.did)
+
+pub returns-clause-lasting_read : goal.returns-clause-lasting_read
+returns-clause-lasting_read g c = λ cache key found old new h.
+    c.law_lasting.ensures h.shard.table (key_to cache.seed key) old.used h.shard.marks h.did.0
+    h.was.effort h.did.1.effort h.was.seat h.did.1.seat h.did.3
+
+pub returns-clause-taken_read : goal.returns-clause-taken_read
+returns-clause-taken_read g c = λ cache began key old new knows h k.
+    read_taken g.T.Tag.fits cache began key old k new knows h.shard h.was h.is h.shard_is
+    h.seat_was h.seat_is old.used h.did.0 h.did.1 h.did.2
+    (returns-clause-lasting_read g c cache key None old new h) h.did.4
+
+pub returns-clause-pinned_read : goal.returns-clause-pinned_read
+returns-clause-pinned_read g c = λ cache began key old new knows h k goes held.
+    hidden_by_other g.T.Tag.fits cache began key old new k
+    (returns-clause-taken_read g c cache began key old new knows h k) goes held
 
 pub returns-clause-pinned : goal.returns-clause-pinned
 returns-clause-pinned g c = λ cache began key old new knows h k goes held.

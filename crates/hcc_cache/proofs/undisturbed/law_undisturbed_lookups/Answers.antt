@@ -3,13 +3,14 @@ use Rattle.std.proofs.lemmas.Option.{same_Some}
 use Rattle.hcc_rule.specs.declared.geometry.Geometry.{Geometry}
 use Rattle.hcc_rule.specs.Callers.{slots_of, world_at}
 use Rattle.hcc_table.specs.Standing.{ShowsKey}
-use Rattle.hcc_table.proofs.Lasting.{misses_exactly}
+use Rattle.hcc_table.proofs.Lasting.{misses_exactly, searches_seek}
 use Rattle.hcc_shard.specs.declared.seat.ShardSeat.{ShardSeat}
 use Rattle.hcc_shard.proofs.Gettings.{gets_lasting}
 use Rattle.hcc_cache.specs.Keys.{fits_seeded}
 use Rattle.hcc_cache.specs.Sharding.{key_to}
-use Rattle.hcc_cache.proofs.Calm.Stretches.{calm_of}
+use Rattle.hcc_cache.proofs.Calm.Stretches.{calm_first, calm_of}
 use Rattle.hcc_cache.proofs.Calm.Finds.{finds_quiet, misses_quiet, seat_named}
+use Rattle.hcc_cache.proofs.Within.Begun.{on_seeks}
 use Rattle.hcc_cache.proofs.undisturbed.law_undisturbed_lookups.Goals as goal
 
 found_some : {A : Type 0} (o : Option A) → (IsNone o → ⊥) → IsSome o
@@ -33,6 +34,31 @@ returns-clause-misses g c = λ cache began key found old new knows h quiet.
     (returns-clause-first g c cache began key found old new knows h quiet) in (
       λ none slot near. exactly.0 (h.did.1 ∙ none) slot (subst (λ n. slot < n) (sym few) near),
       λ never. sym h.did.1 ∙ exactly.1 (λ slot near. never slot (subst (λ n. slot < n) few near)),
+    )
+
+pub returns-clause-first_read : goal.returns-clause-first_read
+returns-clause-first_read g c = λ cache began key found old new knows h quiet.
+    let table = h.shard.table in
+    let asked = key_to cache.seed key in
+    let looked = h.did.1 in
+    let searched = on_seeks table (searches_seek (fits_seeded g.T.Tag.fits) table asked old.used
+    h.shard.marks h.did.0 h.was.effort looked.effort h.was.seat looked.seat h.did.3) in
+    finds_quiet (fits_seeded g.T.Tag.fits) table (began _ h.shard h.shard_is) old.number asked
+    (seat_named cache old knows _ h.shard h.was h.shard_is h.seat_was)
+    (calm_first old.number table (calm_of old.number quiet) searched (on_seeks table h.did.4))
+    old.used h.did.0
+    (c.law_lasting.ensures table asked old.used h.shard.marks h.did.0 h.was.effort looked.effort
+    h.was.seat looked.seat h.did.3)
+
+pub returns-clause-misses_read : goal.returns-clause-misses_read
+returns-clause-misses_read g c = λ cache began key found old new knows h quiet.
+    let few : slots_of h.shard.table ≡ cache.geometry.slots =
+    ap (λ (x : Geometry). x.slots) (knows.alike.plans _ h.shard h.shard_is).0 in
+    let exactly = misses_exactly h.shard.table (key_to cache.seed key)
+    (world_at h.shard.table h.was.seat) h.did.0
+    (returns-clause-first_read g c cache began key found old new knows h quiet) in (
+      λ none slot near. exactly.0 (h.did.2 ∙ none) slot (subst (λ n. slot < n) (sym few) near),
+      λ never. sym h.did.2 ∙ exactly.1 (λ slot near. never slot (subst (λ n. slot < n) few near)),
     )
 
 pub returns-clause-unread : goal.returns-clause-unread

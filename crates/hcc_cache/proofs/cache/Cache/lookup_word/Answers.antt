@@ -1,15 +1,23 @@
-use Rattle.std.proofs.Common.{◌≡◌, ◌∙◌, ◌+◌, ◌-◌, ◌*◌, ◌<◌, length, ap, refl, subst, sym, arith}
+use Rattle.std.proofs.Common.{is_some, ◌≡◌, ◌∙◌, ◌+◌, ◌-◌, ◌*◌, ◌<◌, None, Some, length, ap, refl, subst, sym, arith}
+use Rattle.std.specs.Prelude.{option_map}
 use Rattle.std.specs.Vec.{with_item}
 use Rattle.hcc_rule.specs.declared.geometry.Geometry.{Geometry}
 use Rattle.hcc_rule.specs.declared.view.Record.{Record}
 use Rattle.hcc_rule.specs.Words.{payload_word}
 use Rattle.hcc_shard.specs.Callers.{geometry_of}
+use Rattle.hcc_shard.specs.Counted.{SameEvictions}
+use Rattle.hcc_table.proofs.Lasting.{searches_seek}
+use Rattle.hcc_table.proofs.Seeking.{seeks_then}
+use Rattle.hcc_table.proofs.Still.{seeks_still}
 use Rattle.hcc_cache.specs.declared.client.Client.{Client}
 use Rattle.hcc_cache.specs.declared.holding.Hold.{Hold}
+use Rattle.hcc_cache.specs.Calls.{shard_in}
+use Rattle.hcc_cache.specs.Keys.{fits_seeded}
 use Rattle.hcc_cache.specs.Sharding.{shard_of}
-use Rattle.hcc_cache.proofs.Clients.AtOneShard.{ChangesAt, few_at, is_at, next_at, seated_at, takes_at}
+use Rattle.hcc_cache.proofs.Clients.AtOneShard.{ChangesAt, does_at, few_at, is_at, next_at, seated_at, takes_at}
+use Rattle.hcc_cache.proofs.Clients.ShownAfterwards.{stays_at, stays_same}
 use Rattle.hcc_cache.proofs.HandedBack.AloneAfterwards.{alone_same}
-use Rattle.hcc_cache.proofs.Searches.KnownAfterLookup.{finds, finds_it, knows_more, knows_sought, misses}
+use Rattle.hcc_cache.proofs.Searches.KnownAfterLookup.{finds, finds_it, knows_more, knows_sought, misses, searched_reading_at, visits_at}
 use Rattle.hcc_cache.proofs.Handles.OneMore.{IsGiven}
 use Rattle.hcc_cache.proofs.cache.Cache.lookup_word.Goals as goal
 
@@ -242,3 +250,184 @@ returns-clause-steps g c =
     let within = makes.within in
     let steps = makes.steps in
     takes_at cache old new i shard was is at change (7 * cache.geometry.slots + 1) (omega arith)
+
+pub returns-in_default-clause-searched : goal.returns-in_default-clause-searched
+returns-in_default-clause-searched g c =
+    let cache = c.args.self.now in
+    let old = c.args.client.now in
+    let i = c.shard_number-number.result in
+    let shard = c.index-shard.result.now in
+    let was = c.index_mut-seat.result.now in
+    let is = c.lookup_word.new.seat in
+    let at = is_at cache old i shard was c.requires.known c.shard_number-number.ensures.inside
+    c.index-shard.ensures c.index_mut-seat.ensures.value in
+    let new = record old { seats = with_item old.seats i is } in
+    let change : ChangesAt old new i is =
+    record { seats = refl; number = refl; most = refl; seed = refl; capacities = refl } in
+    let here = c.shard_number-number.ensures.value
+    ∙ ap (λ k. shard_of k (length cache.shards.items)) c.key_to-seeded.ensures.words in
+    let words = c.key_to-seeded.ensures.words in
+    let told = c.lookup_word.ensures.searches in
+    searched_reading_at cache old new i shard was is at change g.T.Tag.fits c.args.key None here
+    _ told.0 (ap (λ o. is_some (option_map (λ got. got.0) o)) c.in_default.is)
+    (rw words at told.1) told.2
+
+pub returns-in_default-clause-stays : goal.returns-in_default-clause-stays
+returns-in_default-clause-stays g c =
+    let cache = c.args.self.now in
+    let old = c.args.client.now in
+    let i = c.shard_number-number.result in
+    let shard = c.index-shard.result.now in
+    let was = c.index_mut-seat.result.now in
+    let is = c.lookup_word.new.seat in
+    let at = is_at cache old i shard was c.requires.known c.shard_number-number.ensures.inside
+    c.index-shard.ensures c.index_mut-seat.ensures.value in
+    let new = record old { seats = with_item old.seats i is } in
+    let change : ChangesAt old new i is =
+    record { seats = refl; number = refl; most = refl; seed = refl; capacities = refl } in
+    let told = c.lookup_word.ensures.searches in
+    let seeks = searches_seek (fits_seeded g.T.Tag.fits) shard.table c.key_to-seeded.result.in_shard
+    old.used shard.marks _ was.effort told.0.effort was.seat told.0.seat told.1 in
+    stays_at cache old new i shard was is at change
+    (seeks_still shard.table was.seat is.seat
+    (seeks_then shard.table was.seat told.0.seat is.seat seeks told.2))
+
+pub returns-in_default-clause-counts : goal.returns-in_default-clause-counts
+returns-in_default-clause-counts g c =
+    let cache = c.args.self.now in
+    let old = c.args.client.now in
+    let i = c.shard_number-number.result in
+    let shard = c.index-shard.result.now in
+    let was = c.index_mut-seat.result.now in
+    let is = c.lookup_word.new.seat in
+    let at = is_at cache old i shard was c.requires.known c.shard_number-number.ensures.inside
+    c.index-shard.ensures c.index_mut-seat.ensures.value in
+    let new = record old { seats = with_item old.seats i is } in
+    let change : ChangesAt old new i is =
+    record { seats = refl; number = refl; most = refl; seed = refl; capacities = refl } in
+    let here = c.shard_number-number.ensures.value
+    ∙ ap (λ k. shard_of k (length cache.shards.items)) c.key_to-seeded.ensures.words in
+    does_at cache old new i shard was is at change SameEvictions c.lookup_word.ensures.counts
+    (shard_in cache c.args.key) here
+
+pub returns-in_default-clause-visits : goal.returns-in_default-clause-visits
+returns-in_default-clause-visits g c =
+    let cache = c.args.self.now in
+    let old = c.args.client.now in
+    let i = c.shard_number-number.result in
+    let shard = c.index-shard.result.now in
+    let was = c.index_mut-seat.result.now in
+    let is = c.lookup_word.new.seat in
+    let at = is_at cache old i shard was c.requires.known c.shard_number-number.ensures.inside
+    c.index-shard.ensures c.index_mut-seat.ensures.value in
+    let new = record old { seats = with_item old.seats i is } in
+    let change : ChangesAt old new i is =
+    record { seats = refl; number = refl; most = refl; seed = refl; capacities = refl } in
+    let here = c.shard_number-number.ensures.value
+    ∙ ap (λ k. shard_of k (length cache.shards.items)) c.key_to-seeded.ensures.words in
+    visits_at cache old new i shard was is at change 1 c.args.key here c.lookup_word.ensures.steps
+
+pub returns-clause-searched : goal.returns-clause-searched
+returns-clause-searched g c =
+    let cache = c.args.self.now in
+    let old = c.args.client.now in
+    let i = c.shard_number-number.result in
+    let shard = c.index-shard.result.now in
+    let was = c.index_mut-seat.result.now in
+    let is = c.lookup_word.new.seat in
+    let at = is_at cache old i shard was c.requires.known c.shard_number-number.ensures.inside
+    c.index-shard.ensures c.index_mut-seat.ensures.value in
+    let new = c.keep.new.self in
+    let rest = c.keep.ensures.rest in
+    let change : ChangesAt old new i is = record {
+      seats = ap (λ (x : Client g.row.T.Denot). x.seats.items) rest;
+      number = ap (λ (x : Client g.row.T.Denot). x.number) rest;
+      most = ap (λ (x : Client g.row.T.Denot). x.most) rest;
+      seed = ap (λ (x : Client g.row.T.Denot). x.seed) rest;
+      capacities = c.keep.ensures.capacities;
+    } in
+    let here = c.shard_number-number.ensures.value
+    ∙ ap (λ k. shard_of k (length cache.shards.items)) c.key_to-seeded.ensures.words in
+    let words = c.key_to-seeded.ensures.words in
+    let told = c.lookup_word.ensures.searches in
+    searched_reading_at cache old new i shard was is at change g.T.Tag.fits c.args.key
+    (Some c.keep.result) here
+    _ told.0 (ap (λ o. is_some (option_map (λ got. got.0) o)) c.in-Some.is)
+    (rw words at told.1) told.2
+
+pub returns-clause-stays : goal.returns-clause-stays
+returns-clause-stays g c =
+    let cache = c.args.self.now in
+    let old = c.args.client.now in
+    let i = c.shard_number-number.result in
+    let shard = c.index-shard.result.now in
+    let was = c.index_mut-seat.result.now in
+    let is = c.lookup_word.new.seat in
+    let at = is_at cache old i shard was c.requires.known c.shard_number-number.ensures.inside
+    c.index-shard.ensures c.index_mut-seat.ensures.value in
+    let new = c.keep.new.self in
+    let rest = c.keep.ensures.rest in
+    let change : ChangesAt old new i is = record {
+      seats = ap (λ (x : Client g.row.T.Denot). x.seats.items) rest;
+      number = ap (λ (x : Client g.row.T.Denot). x.number) rest;
+      most = ap (λ (x : Client g.row.T.Denot). x.most) rest;
+      seed = ap (λ (x : Client g.row.T.Denot). x.seed) rest;
+      capacities = c.keep.ensures.capacities;
+    } in
+    let told = c.lookup_word.ensures.searches in
+    let seeks = searches_seek (fits_seeded g.T.Tag.fits) shard.table c.key_to-seeded.result.in_shard
+    old.used shard.marks _ was.effort told.0.effort was.seat told.0.seat told.1 in
+    stays_at cache old new i shard was is at change
+    (seeks_still shard.table was.seat is.seat
+    (seeks_then shard.table was.seat told.0.seat is.seat seeks told.2))
+
+pub returns-clause-counts : goal.returns-clause-counts
+returns-clause-counts g c =
+    let cache = c.args.self.now in
+    let old = c.args.client.now in
+    let i = c.shard_number-number.result in
+    let shard = c.index-shard.result.now in
+    let was = c.index_mut-seat.result.now in
+    let is = c.lookup_word.new.seat in
+    let at = is_at cache old i shard was c.requires.known c.shard_number-number.ensures.inside
+    c.index-shard.ensures c.index_mut-seat.ensures.value in
+    let new = c.keep.new.self in
+    let rest = c.keep.ensures.rest in
+    let change : ChangesAt old new i is = record {
+      seats = ap (λ (x : Client g.row.T.Denot). x.seats.items) rest;
+      number = ap (λ (x : Client g.row.T.Denot). x.number) rest;
+      most = ap (λ (x : Client g.row.T.Denot). x.most) rest;
+      seed = ap (λ (x : Client g.row.T.Denot). x.seed) rest;
+      capacities = c.keep.ensures.capacities;
+    } in
+    let here = c.shard_number-number.ensures.value
+    ∙ ap (λ k. shard_of k (length cache.shards.items)) c.key_to-seeded.ensures.words in
+    does_at cache old new i shard was is at change SameEvictions c.lookup_word.ensures.counts
+    (shard_in cache c.args.key) here
+
+pub returns-clause-visits : goal.returns-clause-visits
+returns-clause-visits g c =
+    let cache = c.args.self.now in
+    let old = c.args.client.now in
+    let i = c.shard_number-number.result in
+    let shard = c.index-shard.result.now in
+    let was = c.index_mut-seat.result.now in
+    let is = c.lookup_word.new.seat in
+    let at = is_at cache old i shard was c.requires.known c.shard_number-number.ensures.inside
+    c.index-shard.ensures c.index_mut-seat.ensures.value in
+    let new = c.keep.new.self in
+    let rest = c.keep.ensures.rest in
+    let change : ChangesAt old new i is = record {
+      seats = ap (λ (x : Client g.row.T.Denot). x.seats.items) rest;
+      number = ap (λ (x : Client g.row.T.Denot). x.number) rest;
+      most = ap (λ (x : Client g.row.T.Denot). x.most) rest;
+      seed = ap (λ (x : Client g.row.T.Denot). x.seed) rest;
+      capacities = c.keep.ensures.capacities;
+    } in
+    let here = c.shard_number-number.ensures.value
+    ∙ ap (λ k. shard_of k (length cache.shards.items)) c.key_to-seeded.ensures.words in
+    visits_at cache old new i shard was is at change 1 c.args.key here c.lookup_word.ensures.steps
+
+pub returns-in_err-may_hold-clause-stays : goal.returns-in_err-may_hold-clause-stays
+returns-in_err-may_hold-clause-stays g c =
+    stays_same c.args.self.now c.args.client.now c.args.client.now refl

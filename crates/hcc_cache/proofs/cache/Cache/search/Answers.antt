@@ -133,7 +133,7 @@ returns-in_err-pin-clause-visits g c =
       most = refl;
       seed = refl;
       capacities = refl;
-    }) c.args.key
+    }) 0 c.args.key
     (c.shard_number-shard.ensures.value ∙ ap (λ k. shard_of k (length cache.shards.items)) words)
     c.lookup.ensures.steps
 
@@ -231,7 +231,7 @@ returns g c =
           (shard_in cache c.args.key)
           (c.shard_number-shard.ensures.value ∙ ap (λ k. shard_of k shards) words);
       visits =
-          visits_at cache old new i shard was is at change c.args.key
+          visits_at cache old new i shard was is at change 0 c.args.key
           (c.shard_number-shard.ensures.value ∙ ap (λ k. shard_of k shards) words)
           c.lookup.ensures.steps;
       steps =

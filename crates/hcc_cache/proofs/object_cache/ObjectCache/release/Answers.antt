@@ -1,8 +1,10 @@
-use Rattle.std.proofs.Common.{◌&&◌, ap, map}
+use Rattle.std.proofs.Common.{◌≡◌, ◌&&◌, ◌∙◌, ap, map, subst, sym}
+use Rattle.std.proofs.lemmas.Option.{same_Some}
 use Rattle.hcc_table.specs.Lists.{as_freed, has_room}
 use Rattle.hcc_cache.specs.declared.client.Client.{Client}
 use Rattle.hcc_cache.specs.declared.object_cache.ObjectClient.{ObjectClient}
-use Rattle.hcc_cache.specs.Calls.{GivesBackIn}
+use Rattle.hcc_cache.specs.declared.holding.Hold.{Hold}
+use Rattle.hcc_cache.specs.Calls.{CountsOf, GivesBackIn}
 use Rattle.hcc_cache.specs.Objects.{shelf_of}
 use Rattle.hcc_cache.specs.Stays.{ReleasesPin}
 use Rattle.hcc_cache.proofs.Handles.OfItsPin.{of_no_pin, of_pin}
@@ -57,3 +59,12 @@ returns-in-Err-clause-by c =
     (has_room 1 (shelf_of old)) (c.args.useful && counting) c.args.erase_if_last
     c.release_alone.result old.client c.release_alone.new.client.client)
     c.in-Err.index c.in-Err.ensures.standing
+
+pub returns-in-Ok-clause-counts : goal.returns-in-Ok-clause-counts
+returns-in-Ok-clause-counts c = λ hold at.
+    let old = c.args.client.now.client in
+    let new = c.release_pin.new.client in
+    let same : hold ≡ c.hold-hold.result = same_Some _ _ (sym at ∙ c.hold-hold.ensures.held) in
+    subst (λ (h : Hold). CountsOf h.shard h.kept old new) (sym same)
+    (subst (λ k. CountsOf c.hold-hold.result.shard k old new) (sym c.in-Ok.ensures.pinned.kept)
+    c.release_pin.ensures.counts)
