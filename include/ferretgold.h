@@ -419,11 +419,10 @@ size_t ferretgold_value_limit(const ferretgold_cache *cache);
  * What the calls of all clients came to, in sum, and of the client of this number, whoever has it. Any
  * thread may ask at any time, also while clients are at work. Each number is that of calls that had
  * returned at some moment of the reading, and none falls; it is exact where no call is under way. Only
- * what other calls than insertions and erasures lost counts from when their client asks for its
- * statistics, or is given back. It is no picture of one moment.
+ * what other calls than insertions lost counts from when their client asks for its statistics, or is
+ * given back. It is no picture of one moment.
  *
- * Costs 28 loads for each client. For it each insertion and erasure asks twice what the client did at the
- * key's shard, which takes some 100 instructions.
+ * Costs 28 loads for each client. For it each insertion asks twice what the client did at the key's shard.
  *
  * ferretgold_client_counts refuses OUT_OF_RANGE: no client of the cache has this number.
  */

@@ -11,20 +11,16 @@ static void tell(uint64_t *number, uint64_t now) {
     __atomic_store_n(number, now, __ATOMIC_RELAXED);
 }
 
-void count_told(ferretgold_counts *it, const ferretgold_stats *stats) {
-    tell(&it->there, stats->boosts);
-    tell(&it->evicted, stats->evicted);
-    tell(&it->evicted_hit, stats->evicted_hit);
-    tell(&it->freed, stats->freed);
-    tell(&it->turns, stats->turns);
-    tell(&it->lost, stats->lost);
+void count_lost(ferretgold_counts *it, uint64_t lost) {
+    tell(&it->lost, lost);
 }
 
 static void rise(uint64_t *number, uint64_t before, uint64_t after) {
     tell(number, seen(number) + (after - before));
 }
 
-void count_done(ferretgold_counts *it, const ferretgold_stats *before, const ferretgold_stats *after) {
+static void count_done(ferretgold_counts *it, const ferretgold_stats *before,
+                       const ferretgold_stats *after) {
     rise(&it->evicted, before->evicted, after->evicted);
     rise(&it->evicted_hit, before->evicted_hit, after->evicted_hit);
     rise(&it->freed, before->freed, after->freed);

@@ -15,11 +15,8 @@ static inline void count_together(uint64_t *number) {
     (void)__atomic_fetch_add(number, 1, __ATOMIC_RELAXED);
 }
 
-/* What the proved client says that its calls did so far. */
-void count_told(ferretgold_counts *it, const ferretgold_stats *stats);
-
-/* What a call did on the shard of its key, by what the proved client says of that before and after. */
-void count_done(ferretgold_counts *it, const ferretgold_stats *before, const ferretgold_stats *after);
+/* How many exchanges the proved client says that its calls lost so far. */
+void count_lost(ferretgold_counts *it, uint64_t lost);
 
 /* Which number counts an insertion of this status and, where that is OK, outcome, whether it met its key;
  * null if none does. */

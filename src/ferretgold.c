@@ -115,19 +115,14 @@ static uint32_t take(ferretgold_cache *cache) {
     return cache->config.clients;
 }
 
-/* Has a client's counts say what its proved client does. */
-static void tell(ferretgold_client *client) {
-    ferretgold_stats stats;
-    ferretgold_raw_stats(&client->session, &stats);
-    count_told(&client->counts, &stats);
-}
-
 /* Puts a client back among those that are idle. */
 static void put_back(ferretgold_client *client) {
     ferretgold_cache *cache = client->cache;
     const size_t number = (size_t)(client - cache->client);
     ferretgold_row *row = &cache->row[number / BITS];
-    tell(client);
+    ferretgold_stats stats;
+    ferretgold_raw_stats(&client->session, &stats);
+    count_lost(&client->counts, stats.lost);
     const bool spent = ferretgold_raw_serials_left(&client->session) == 0;
     atomic_fetch_or(spent ? &row->spent : &row->idle, UINT64_C(1) << number % BITS);
 }
@@ -425,11 +420,8 @@ ferretgold_status ferretgold_erase(ferretgold_client *client, const ferretgold_k
         return FERRETGOLD_NO_CLIENT;
     }
     uint32_t ignored = 0;
-    const ferretgold_stats before = stats_at(client, key);
     const uint32_t status =
         ferretgold_raw_erase(&client->session, key, hidden != NULL ? hidden : &ignored);
-    const ferretgold_stats after = stats_at(client, key);
-    count_done(&client->counts, &before, &after);
     return ferretgold_leave(client, status);
 }
 
@@ -528,7 +520,7 @@ ferretgold_status ferretgold_statistics(ferretgold_client *client, ferretgold_st
         return FERRETGOLD_NO_CLIENT;
     }
     ferretgold_raw_stats(&client->session, stats);
-    count_told(&client->counts, stats);
+    count_lost(&client->counts, stats->lost);
     return ferretgold_leave(client, FERRETGOLD_OK);
 }
 

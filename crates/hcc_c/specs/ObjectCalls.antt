@@ -1,6 +1,6 @@
 -- What each call of a client of a cache of objects comes to: what it answers, and what it leaves of
 -- the session.
-use Rattle.std.specs.Prelude.{◌≡◌, ℕ, ◌+◌, ◌*◌, ◌/◌, ◌<◌, ◌≤◌, ◌^◌, ◌++◌, ◌∷◌, [], ◌↔◌, Bool, true, Option, Result, Err, IfOk, IfErr, IfSome, IfNone, None, Some, Ok, OnOk, OnErr, IsOk, IsErrOf, MatchResult, length}
+use Rattle.std.specs.Prelude.{◌≡◌, ℕ, ◌+◌, ◌*◌, ◌/◌, ◌<◌, ◌≤◌, ◌^◌, ◌++◌, ◌∷◌, [], ◌↔◌, Bool, false, true, Option, Result, Err, IfOk, IfErr, IfSome, IfNone, None, Some, Ok, OnOk, OnErr, IsOk, IsErrOf, MatchResult, is_some, length}
 use Rattle.std.specs.Arc.{arc_value}
 use Rattle.hcc_word.specs.declared.objects.TheConstants.{ADDRESS_BITS}
 use Rattle.hcc_core.specs.declared.limits.TheConstants.{OCCUPANCY_PERCENT}
@@ -19,12 +19,12 @@ use Rattle.hcc_cache.specs.declared.object_inserting.Placing.{Placing}
 use Rattle.hcc_cache.specs.declared.object_walking.HeldObject.{HeldObject}
 use Rattle.hcc_cache.specs.declared.objects.Object.{Object}
 use Rattle.hcc_cache.specs.declared.priority.Priority.{Priority}
-use Rattle.hcc_cache.specs.Calls.{CountsAt, CountsNone, Erases, ErasesListed, Finds, GivesUpWith, HandsAt, KeepsAll, Misses, Reads, Releases, Rerefs, TakesAtMost, shard_in}
+use Rattle.hcc_cache.specs.Calls.{CountsAt, CountsNone, Erases, ErasesListed, Finds, GivesUpWith, HandsAt, KeepsAll, Misses, Reads, Releases, Rerefs, SearchesReadingFor, TakesAtMost, shard_in}
 use Rattle.hcc_cache.specs.Clients.{held_by, held_of}
 use Rattle.hcc_cache.specs.Keys.{key_from}
 use Rattle.hcc_cache.specs.ObjectInserts.{FailsObject, InsertsObject, MayInsert, MayStand, PinsObject, answer_as, is_full, placed_as, refused_as}
 use Rattle.hcc_cache.specs.Objects.{HandsBack, alone_of, gone_of, is_word, object_bytes, object_of, places_left, shelf_of}
-use Rattle.hcc_cache.specs.Stays.{ReleasesWith, Stays}
+use Rattle.hcc_cache.specs.Stays.{ReleasesWith, Stays, StaysWhereStanding}
 use Rattle.hcc_cache.specs.Totals.{CountsEach, LoadsEachOccupancy, LoadsEachUsage, LoadsUsages, SearchesAll, charge_by, entries_by, made_by, taken_by}
 use Rattle.hcc_cache.specs.Walked.{HoldsAt, IsSlotIn, PassesAt}
 use Rattle.hcc_c.specs.declared.inserting.Unfit.{Unfit}
@@ -59,6 +59,11 @@ pub record LooksUp (key : Key) (answer : Result (Option (CHandle × Object)) Loo
       × (found.0 ≡ c_handle_of old.cache_number handle)))
   pub missed : IfOk answer (λ o. IfNone o
       (Misses (below old) key (client_in old) (client_in new)))
+  pub searched : IfOk answer (λ o. (handle : Option Handle) × (is_some handle ≡ is_some o)
+      × SearchesReadingFor (below old) is_word key handle (client_in old) (client_in new))
+  pub stays : Stays (below old) (client_in old) (client_in new)
+  pub counts : IfOk answer (λ _. CountsAt (shard_in (below old) key) (client_in old)
+      (client_in new))
   pub list : new.client.gone ≡ old.client.gone
   pub rest : Keeps (counted_look answer old.counts) old new
   pub steps : Within (7 * (below old).geometry.slots + 1) old new
@@ -102,6 +107,7 @@ pub record RefersAgain (c_handle : CHandle) (answer : Option (Result CHandle Loo
       × IsHandle old c_handle was
       × Rerefs (below old) was handle (client_in old) (client_in new)
       × (more ≡ c_handle_of old.cache_number handle)))
+  pub stays : IfSome answer (λ _. Stays (below old) (client_in old) (client_in new))
   pub list : new.client.gone ≡ old.client.gone
   pub rest : Keeps old.counts old new
   pub steps : Within 2 old new
@@ -117,7 +123,10 @@ pub record GivesBack (c_handle : CHandle) (useful erase : Bool) (answer : Option
       × GivesUpWith (below old) (has_room 1 (shelf_of old.client)) handle useful erase freed
       (client_in old) (client_in new)
       × ReleasesWith (below old) (has_room 1 (shelf_of old.client)) handle useful erase freed
-      (client_in old) (client_in new))
+      (client_in old) (client_in new)
+      × StaysWhereStanding (below old) handle (client_in old) (client_in new))
+  pub stays : IfSome answer (λ freed. freed ≡ false
+      → Stays (below old) (client_in old) (client_in new))
   pub rest : IfSome answer (λ _. Keeps old.counts old new)
   pub steps : Within (freeing (below old).geometry.slots + 4) old new
 

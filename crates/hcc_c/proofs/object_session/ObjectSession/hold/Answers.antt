@@ -1,4 +1,4 @@
-use Rattle.std.proofs.Common.{rules, refl}
+use Rattle.std.proofs.Common.{Some, rules, refl}
 use Rattle.hcc_c.proofs.object_session.ObjectSession.hold.Goals as goal
 
 pub returns-in_err-handle-clause-charges : goal.returns-in_err-handle-clause-charges
@@ -32,6 +32,13 @@ returns-clause-charges c =
         refused = tt;
         found = (c.in-Some.handle, told.0, told.1, refl);
         missed = tt;
+        searched = (
+          Some c.in-Some.handle,
+          refl,
+          rw (c.deref.ensures, c.in-Some.is) at c.in_ok-handle.ensures.searched,
+        );
+        stays = rw c.deref.ensures at c.in_ok-handle.ensures.stays;
+        counts = rw c.deref.ensures at c.in_ok-handle.ensures.counts;
         list = c.in_ok-handle.ensures.list;
         rest = search rules;
         steps = rw c.deref.ensures at c.in_ok-handle.ensures.steps;

@@ -13,7 +13,9 @@ returns-clause-released c =
         rw c.deref.ensures at told.list,
         rw c.deref.ensures at told.gives,
         rw c.deref.ensures at told.by,
+        rw c.deref.ensures at told.standing,
       );
+      stays = rw c.deref.ensures at told.stays;
       rest = search rules;
       steps = search rules;
     }
