@@ -55,6 +55,14 @@ sees_steps_of() {
     "$1" "$2" -O1 -fsanitize=thread "$folder/store.o" "$folder/threads/libferretgold.a" -Wl,-z,muldefs
 }
 
+# Compiles heap.c for a program that is compiled so: it leaves to AddressSanitizer what that sees.
+# counts_heap WORD..
+counts_heap() {
+    local sanitized=()
+    [[ $* == *-fsanitize=address* ]] && sanitized=(-fsanitize=address)
+    cc -std=c11 "${sanitized[@]}" -c tests/c/heap.c -o "$folder/heap.o"
+}
+
 # Counts a case by how the command before it ended, and ends like it: judge NAME
 judge() {
     if [[ $? == 0 ]]; then

@@ -39,7 +39,7 @@ is_as_described() {
 }
 
 in_cpp() {
-    cc -std=c11 -c tests/c/heap.c -o "$folder/heap.o" \
+    counts_heap "$@" \
         && builds in_cpp c++ -std=c++17 "$@" tests/c/file.cpp "$folder/heap.o" "$wrap" && "$folder/in_cpp" "$folder/streamed"
 }
 

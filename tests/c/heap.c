@@ -117,7 +117,8 @@ void *__wrap_realloc(void *at, size_t size) {
 }
 
 void *__wrap_aligned_alloc(size_t alignment, size_t size) {
-    return refuses() ? NULL : counted(__real_aligned_alloc(alignment, size + BEHIND), size);
+    const size_t with_end = (size + BEHIND + alignment - 1) / alignment * alignment;
+    return refuses() ? NULL : counted(__real_aligned_alloc(alignment, with_end), size);
 }
 
 void __wrap_free(void *at) {

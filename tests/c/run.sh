@@ -27,7 +27,7 @@ builds() {
 
 # The same, with what the library allocates counted: builds_counting LIBRARY WORD..
 builds_counting() {
-    cc -std=c11 -c tests/c/heap.c -o "$folder/heap.o" && builds "${@:2}" "$folder/heap.o" "$1" "$wrap"
+    counts_heap "$@" && builds "${@:2}" "$folder/heap.o" "$1" "$wrap"
 }
 
 # What the example for Prometheus prints is what this reads, of 400 calls of ferretgold_get.
