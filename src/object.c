@@ -1,208 +1,16 @@
 /* The calls of ferretgold_object.h round those of the proved library: each works through a client
- * of the calling thread, fills the record that a handle points to, and runs deleters once it is
- * over. It is tested, not proved. */
-#include "object.h"
+ * of the calling thread, and fills the record that a handle points to. It is tested, not proved. */
+#include "object_call.h"
 #include "counts.h"
 
 enum {
-    SOME = 4,       /* how many handles of its queue a call gives back */
-    WAITING = 64,   /* from how many on others give them back, if they can */
+    WAITING = 64,   /* from how many on others give handles back, if they can */
     INSERTIONS = 4, /* how often an insertion is tried whose list was full */
-    CHANGES = 64,   /* how many other clients a call tries whose client is full */
     PRIORITIES = 3,
     ADDRESS_BITS = 48
 };
 
-/* ---- Deleters -------------------------------------------------------------------------------- */
-
-/* Runs the deleter of one object of no client. Whether there was one. */
-SLOWLY static bool has_deleted_alone(ferretgold_object_cache *cache, object_cell *cell) {
-    record *it = cell->alone;
-    if (it == NULL) {
-        return false;
-    }
-    const ferretgold_object_handle was = it->shows;
-    const ferretgold_object_value value = {(uintptr_t)was.object, was.kind};
-    cell->alone = (record *)(uintptr_t)it->handle.serial;
-    spare_given_back(cache, it);
-    delete_object(cache, &was.key, &value);
-    return true;
-}
-
-/* Runs the deleters of all that is on the list of a call's client, or is of none: what their calls
- * put there, too. */
-QUICKLY void delete_all(object_cell *it) {
-    object_client *client = it->in_use;
-    ferretgold_key key;
-    ferretgold_object_value value;
-    do {
-        size_t left = 1;
-        while (left > 0
-               && ferretgold_raw_object_take_gone(&client->session, &key, &value, &left)
-                      == FERRETGOLD_OK) {
-            client->untaken = false;
-            delete_object(client->cache, &key, &value);
-            left += client->untaken; /* by its own calls */
-        }
-    } while (RARELY(it->alone != NULL) && has_deleted_alone(client->cache, it));
-    client->untaken = false;
-}
-
-static void run_deleters(object_cell *it) {
-    delete_all(it);
-}
-
-/* As few as each list has places for, so that each may free its entry. */
-static bool some_given_back(object_cell *it) {
-    const bool more = records_given_back(it->in_use, SOME);
-    if (it->in_use->untaken) {
-        run_deleters(it);
-    }
-    return more;
-}
-
-static void give_back_some(object_cell *it) {
-    (void)some_given_back(it);
-}
-
-void give_back_all(object_cell *it) {
-    while (some_given_back(it)) {
-    }
-}
-
-/* ---- A call from its beginning to its end ---------------------------------------------------- */
-
-/* A deleter's call begins: in the client of the call that runs the deleter, if that has one. */
-SLOWLY static object_cell *entered_again(object_cell *it) {
-    if (it == NULL || it->in_use == NULL) {
-        return NULL;
-    }
-    it->depth += 1;
-    return it;
-}
-
-/* A thread is in a call of this client: the first one, whose deleters' calls go through it, too. */
-static inline void begin(object_cell *it, object_client *client) {
-    it->in_use = client;
-    it->depth = 1;
-    it->ready = 0;
-}
-
-/* Begins a call where more is to be done than that: it gives a few handles back that other threads
- * left, or all of another thread's client. */
-SLOWLY static object_cell *enter_slowly(ferretgold_object_cache *cache) {
-    object_cell *it = cell_of(cache);
-    if (it == NULL || it->depth > 0) {
-        return entered_again(it);
-    }
-    if ((it->client == NULL || !own_entered(it)) && !client_found(cache, it)) {
-        return NULL;
-    }
-    begin(it, it->in_use);
-    if (has_returned(it->in_use)) {
-        (it->in_use == it->client ? give_back_some : give_back_all)(it);
-    }
-    return it;
-}
-
-/* Whether a thread's ready client has begun a call: not where something else is to be done first. */
-static inline bool entered_plainly(object_client *client, const object_cell *it) {
-    return atomic_load_explicit(&client->queue, memory_order_relaxed) == NULL
-           && client_entered(client, it);
-}
-
-/* Begins a call that needs a client: the thread's cell of the cache; null if none is to be had. */
-QUICKLY object_cell *enter(ferretgold_object_cache *cache) {
-    object_cell *it = cell_at_home(cache);
-    object_client *client = it->client;
-    if (RARELY(it->ready != cache->life) || RARELY(!entered_plainly(client, it))) {
-        return enter_slowly(cache);
-    }
-    begin(it, client);
-    return it;
-}
-
-/* Begins a call that only this client can serve, if the thread has it at hand. */
-static object_cell *enter_own(object_client *client) {
-    object_cell *it = cell_of(client->cache);
-    if (it == NULL || it->depth > 0) {
-        return it == NULL || it->in_use != client ? NULL : entered_again(it);
-    }
-    if (it->client != client || !own_entered(it)) {
-        return NULL;
-    }
-    begin(it, client);
-    if (has_returned(client)) {
-        give_back_some(it);
-    }
-    return it;
-}
-
-/* Ends the first call of a thread. */
-static inline void end(object_cell *it) {
-    object_client *client = it->client;
-    it->depth = 0;
-    if (RARELY(it->in_use != client)) {
-        client_unclaimed(it->in_use);
-        it->ready = client != NULL && !has_backlog(client) ? it->life : 0;
-        return;
-    }
-    client_left(client);
-    it->ready = has_backlog(client) ? 0 : it->life;
-}
-
-/* Ends a call: the first of a thread runs the deleters of what was freed. */
-static inline ferretgold_status leave(object_cell *it, uint32_t status) {
-    if (RARELY(it->depth > 1)) {
-        it->depth -= 1;
-        return (ferretgold_status)status;
-    }
-    if (it->in_use->untaken) {
-        run_deleters(it);
-    }
-    end(it);
-    return (ferretgold_status)status;
-}
-
-/* Whether a call that this status refuses is to be tried again: other threads gave back handles of
- * its client, or it has another client now. */
-SLOWLY static bool may_retry(object_cell *it, uint32_t status, uint32_t *changes) {
-    object_client *client = it->in_use;
-    if ((status != FERRETGOLD_HANDLES_FULL && status != FERRETGOLD_SPENT) || it->depth > 1) {
-        return false;
-    }
-    if (client->untaken) {
-        run_deleters(it);
-    }
-    if (status == FERRETGOLD_HANDLES_FULL && has_returned(client)) {
-        give_back_all(it);
-        return true;
-    }
-    *changes += 1;
-    return *changes <= CHANGES && client_changed(client->cache, it);
-}
-
-/* Gives back what waits on a client that is in no call. */
-static void relieve(object_cell *it, object_client *client) {
-    if (it == NULL || it->depth > 0 || !has_returned(client)) {
-        return;
-    }
-    if (client == it->client ? !own_entered(it) : !client_claimed(client)) {
-        return;
-    }
-    begin(it, client);
-    give_back_all(it);
-    (void)leave(it, FERRETGOLD_OK);
-}
-
-/* The same of all clients. */
-static void relieve_all(ferretgold_object_cache *cache) {
-    for (uint32_t number = 0; number < cache->config.clients; number++) {
-        relieve(cell_of(cache), &cache->client[number]);
-    }
-}
-
-/* ---- Handles --------------------------------------------------------------------------------- */
+/* ---- Records --------------------------------------------------------------------------------- */
 
 /* Fills a record: of a proved handle, or a spare one. */
 static inline const ferretgold_object_handle *shown(record *it, uint64_t serial,
@@ -225,9 +33,21 @@ static inline const ferretgold_object_handle *shown_by(object_client *client,
                  &held->object, held->charge);
 }
 
+/* The record that a handle points to. */
+static record *record_of(const ferretgold_object_handle *handle) {
+    return (record *)(uintptr_t)handle;
+}
+
+/* Whether a record is one of a client's. */
+static inline bool is_of(const object_client *client, const record *it) {
+    return (uintptr_t)it - (uintptr_t)client->records < client->size;
+}
+
+/* ---- Looking up ------------------------------------------------------------------------------ */
+
 /* Looks up the key in `held` by one client, and counts what comes of it, unless it is refused. */
-static inline uint32_t looked_up(object_client *client, ferretgold_held_object *held,
-                                 const ferretgold_object_handle **handle) {
+static inline uint32_t looked_up_by(object_client *client, ferretgold_held_object *held,
+                                    const ferretgold_object_handle **handle) {
     const uint32_t status = ferretgold_raw_object_hold(&client->session, held);
     if (status == FERRETGOLD_OK) {
         *handle = shown_by(client, held);
@@ -238,24 +58,43 @@ static inline uint32_t looked_up(object_client *client, ferretgold_held_object *
     return status;
 }
 
+/* What a look-up comes to, in two registers. */
+typedef struct found {
+    uint32_t status;
+    const ferretgold_object_handle *handle;
+} found;
+
 /* The same where more is to be done than that. */
-SLOWLY static ferretgold_status looked_up_slowly(ferretgold_object_cache *cache,
-                                                 ferretgold_key key,
-                                                 const ferretgold_object_handle **handle) {
+SLOWLY static found looked_up_slowly(ferretgold_object_cache *cache, ferretgold_key key) {
     ferretgold_held_object held = {.key = key};
+    found all = {FERRETGOLD_MISS, NULL};
     object_cell *it = enter(cache);
     if (it == NULL) {
         count_together(&cache->nowhere.misses);
-        return FERRETGOLD_MISS;
+        return all;
     }
-    uint32_t status = looked_up(it->in_use, &held, handle);
-    for (uint32_t changes = 0; status > FERRETGOLD_MISS && may_retry(it, status, &changes);) {
-        status = looked_up(it->in_use, &held, handle);
-    }
-    if (status > FERRETGOLD_MISS) {
+    uint32_t changes = 0;
+    do {
+        all.status = looked_up_by(it->in_use, &held, &all.handle);
+    } while (all.status > FERRETGOLD_MISS && may_retry(it, all.status, &changes));
+    if (all.status > FERRETGOLD_MISS) {
         count_more(&it->in_use->counts.misses);
     }
-    return leave(it, status);
+    (void)leave(it, all.status);
+    return all;
+}
+
+/* By the thread's own client at once, if nothing is to be done before. */
+QUICKLY found looked_up(ferretgold_object_cache *cache, ferretgold_held_object *held) {
+    const object_cell *cell = cell_at_home(cache);
+    object_client *client = cell->client;
+    if (RARELY(!is_ready(cache, cell)) || RARELY(!entered_plainly(client, cell))) {
+        return looked_up_slowly(cache, held->key);
+    }
+    found all = {FERRETGOLD_MISS, NULL};
+    all.status = looked_up_by(client, held, &all.handle);
+    client_left(client);
+    return RARELY(all.status > FERRETGOLD_MISS) ? looked_up_slowly(client->cache, held->key) : all;
 }
 
 ferretgold_status ferretgold_object_lookup(ferretgold_object_cache *cache,
@@ -269,15 +108,11 @@ ferretgold_status ferretgold_object_lookup(ferretgold_object_cache *cache,
     if (RARELY(handle == NULL)) {
         return FERRETGOLD_NULL;
     }
-    const object_cell *cell = cell_at_home(cache);
-    object_client *client = cell->client;
-    if (RARELY(cell->ready != cache->life) || RARELY(!entered_plainly(client, cell))) {
-        return looked_up_slowly(cache, held.key, handle);
+    const found all = looked_up(cache, &held);
+    if (all.handle != NULL) {
+        *handle = all.handle;
     }
-    const uint32_t status = looked_up(client, &held, handle);
-    client_left(client);
-    return RARELY(status > FERRETGOLD_MISS) ? looked_up_slowly(client->cache, held.key, handle)
-                                            : (ferretgold_status)status;
+    return (ferretgold_status)all.status;
 }
 
 ferretgold_status ferretgold_object_pin_at(ferretgold_object_cache *cache, uint32_t shard,
@@ -305,15 +140,7 @@ ferretgold_status ferretgold_object_pin_at(ferretgold_object_cache *cache, uint3
     return leave(it, status);
 }
 
-/* The record that a handle points to. */
-static record *record_of(const ferretgold_object_handle *handle) {
-    return (record *)(uintptr_t)handle;
-}
-
-/* Whether a record is one of a client's. */
-static inline bool is_of(const object_client *client, const record *it) {
-    return (uintptr_t)it - (uintptr_t)client->records < client->size;
-}
+/* ---- Giving back ----------------------------------------------------------------------------- */
 
 ferretgold_status ferretgold_object_ref(ferretgold_object_cache *cache,
                                         const ferretgold_object_handle *handle) {
@@ -340,22 +167,23 @@ static void leave_alone(object_cell *cell, record *it) {
 
 /* Ends the handle of an object of no client. The thread's first call runs its deleter: this one,
  * also where there is no client for it. */
-static ferretgold_status ended_alone(ferretgold_object_cache *cache, record *it) {
+static void end_alone(ferretgold_object_cache *cache, record *it) {
     object_cell *cell = cell_of(cache);
     if (cell != NULL && cell->depth > 0) {
         leave_alone(cell, it);
-        return FERRETGOLD_OK;
+        return;
     }
     if (enter(cache) != NULL) {
         leave_alone(cell, it);
-        return leave(cell, FERRETGOLD_OK);
+        (void)leave(cell, FERRETGOLD_OK);
+        return;
     }
     if (cell == NULL) {
         const ferretgold_object_handle was = it->shows;
         const ferretgold_object_value value = {(uintptr_t)was.object, was.kind};
         spare_given_back(cache, it);
         delete_object(cache, &was.key, &value);
-        return FERRETGOLD_OK;
+        return;
     }
     cell->in_use = NULL;
     cell->ready = 0;
@@ -364,16 +192,23 @@ static ferretgold_status ended_alone(ferretgold_object_cache *cache, record *it)
     while (has_deleted_alone(cache, cell)) {
     }
     cell->depth = 0;
-    return FERRETGOLD_OK;
 }
+
+/* What a release comes to, in one register: where it isn't OK nothing was freed. */
+typedef struct let_go {
+    uint32_t status;
+    bool freed;
+} let_go;
 
 /* Gives a handle back by its client, whose call this is, or leaves it to that, and gives back what
  * waits there if that is much. */
-static ferretgold_status given_back(ferretgold_object_cache *cache, record *it, bool useful,
-                                    bool erase_if_last, bool *freed) {
+static let_go given_back(ferretgold_object_cache *cache, record *it, bool useful,
+                         bool erase_if_last) {
+    let_go all = {FERRETGOLD_OK, false};
     if (it->handle.client == NOWHERE) {
-        *freed = true;
-        return ended_alone(cache, it);
+        end_alone(cache, it);
+        all.freed = true;
+        return all;
     }
     object_client *client = &cache->client[it->handle.client];
     object_cell *cell = enter_own(client);
@@ -381,61 +216,77 @@ static ferretgold_status given_back(ferretgold_object_cache *cache, record *it, 
         if (record_pushed(client, it, useful, erase_if_last) % WAITING == 0) {
             relieve(cell_of(cache), client);
         }
-        return FERRETGOLD_OK;
+        return all;
     }
-    const uint32_t status = ferretgold_raw_object_release(&client->session, &it->handle, useful,
-                                                          erase_if_last, freed);
-    client->untaken |= *freed;
-    return leave(cell, status);
-}
-
-/* The deleters of what a client freed that had nothing else to do. */
-SLOWLY static ferretgold_status left_with_deleters(object_client *client, uint32_t status) {
-    object_cell *it = cell_of(client->cache);
-    begin(it, client);
-    client->untaken = true;
-    return leave(it, status);
+    all.status = ferretgold_raw_object_release(&client->session, &it->handle, useful,
+                                               erase_if_last, &all.freed);
+    client->untaken |= all.freed;
+    (void)leave(cell, all.status);
+    return all;
 }
 
 /* Ends a reference of a handle, also where there are more of them, or the client is another. */
-SLOWLY static ferretgold_status released_slowly(ferretgold_object_cache *cache, record *it,
-                                                bool useful, bool erase_if_last, bool *freed) {
+static let_go released_anyhow(ferretgold_object_cache *cache, record *it, bool useful,
+                              bool erase_if_last) {
     const unsigned seen = atomic_load_explicit(&it->references, memory_order_acquire);
     if (it->handle.cache != cache->number || seen == 0) {
-        return FERRETGOLD_NO_HANDLE;
+        return (let_go){FERRETGOLD_NO_HANDLE, false};
     }
-    *freed = false;
     if (seen > 1 && atomic_fetch_sub(&it->references, 1) > 1) {
-        return FERRETGOLD_OK;
+        return (let_go){FERRETGOLD_OK, false};
     }
     atomic_store_explicit(&it->references, 0, memory_order_relaxed);
-    return given_back(cache, it, useful, erase_if_last, freed);
+    return given_back(cache, it, useful, erase_if_last);
+}
+
+SLOWLY static let_go released_slowly(ferretgold_object_cache *cache, record *it, bool useful,
+                                     bool erase_if_last, bool *freed) {
+    const let_go all = released_anyhow(cache, it, useful, erase_if_last);
+    if (freed != NULL && all.status == FERRETGOLD_OK) {
+        *freed = all.freed;
+    }
+    return all;
+}
+
+/* The end of one that began at once and freed an entry. */
+SLOWLY static let_go left_with_deleters(object_client *client) {
+    object_cell *it = cell_of(client->cache);
+    begin(it, client);
+    client->untaken = true;
+    (void)leave(it, FERRETGOLD_OK);
+    return (let_go){FERRETGOLD_OK, true};
+}
+
+/* By the thread's own client at once, if nothing is to be done before. `freed` may be null. */
+QUICKLY let_go released(ferretgold_object_cache *cache, record *it, bool useful,
+                        bool erase_if_last, bool *freed) {
+    const object_cell *cell = cell_at_home(cache);
+    object_client *client = cell->client;
+    if (RARELY(atomic_load_explicit(&it->references, memory_order_acquire) != 1)
+        || RARELY(!is_ready(cache, cell)) || RARELY(!is_of(client, it))
+        || RARELY(!entered_plainly(client, cell))) {
+        return released_slowly(cache, it, useful, erase_if_last, freed);
+    }
+    bool *told = freed != NULL ? freed : &client->freed;
+    atomic_store_explicit(&it->references, 0, memory_order_relaxed);
+    *told = false;
+    const uint32_t status = ferretgold_raw_object_release(&client->session, &it->handle, useful,
+                                                          erase_if_last, told);
+    if (RARELY(*told)) {
+        return left_with_deleters(client);
+    }
+    client_left(client);
+    return (let_go){status, false};
 }
 
 ferretgold_status ferretgold_object_release(ferretgold_object_cache *cache,
                                             const ferretgold_object_handle *handle, bool useful,
                                             bool erase_if_last, bool *freed) {
-    bool ignored;
     if (RARELY(cache == NULL) || RARELY(handle == NULL)) {
         return FERRETGOLD_NULL;
     }
     record *it = record_of(handle);
-    const object_cell *cell = cell_at_home(cache);
-    object_client *client = cell->client;
-    freed = freed != NULL ? freed : &ignored;
-    if (RARELY(atomic_load_explicit(&it->references, memory_order_acquire) != 1)
-        || RARELY(cell->ready != cache->life) || RARELY(!is_of(client, it))
-        || RARELY(!entered_plainly(client, cell))) {
-        return released_slowly(cache, it, useful, erase_if_last, freed);
-    }
-    atomic_store_explicit(&it->references, 0, memory_order_relaxed);
-    const uint32_t status = ferretgold_raw_object_release(&client->session, &it->handle, useful,
-                                                          erase_if_last, freed);
-    if (RARELY(*freed)) {
-        return left_with_deleters(client, status);
-    }
-    client_left(client);
-    return (ferretgold_status)status;
+    return (ferretgold_status)released(cache, it, useful, erase_if_last, freed).status;
 }
 
 /* ---- Inserting ------------------------------------------------------------------------------- */
@@ -443,7 +294,7 @@ ferretgold_status ferretgold_object_release(ferretgold_object_cache *cache,
 /* Without a handle; with one that is given back at once, as no use; and with a handle. */
 typedef enum way { PLAIN, COLD, PINNED } way;
 
-/* An object that is to be inserted. */
+/* An object that is to be inserted, and what a proved call told. */
 typedef struct insertion {
     const ferretgold_key *key;
     ferretgold_object_value value;
@@ -452,8 +303,13 @@ typedef struct insertion {
     uint32_t placing;
     bool list_full;
     ferretgold_handle handle; /* but of a plain one */
-    record *spare;            /* in place of a handle's */
 } insertion;
+
+/* What an insertion comes to, in one register. Where it isn't OK it is placed nowhere. */
+typedef struct outcome {
+    uint32_t status;
+    uint32_t placing;
+} outcome;
 
 /* What is asked for: the rest comes of it. */
 static inline void ask(insertion *it, const ferretgold_key *key, void *object, uint16_t kind,
@@ -462,12 +318,10 @@ static inline void ask(insertion *it, const ferretgold_key *key, void *object, u
     it->value = (ferretgold_object_value){(uintptr_t)object, kind};
     it->charge = charge;
     it->priority = (uint32_t)priority;
-    it->spare = NULL;
 }
 
-/* One try, by one client. */
+/* One try. */
 static inline uint32_t insert_once(object_client *client, insertion *it, way way) {
-    client->untaken = true;
     it->list_full = false;
     if (way == PLAIN) {
         return ferretgold_raw_object_insert(&client->session, it->key, &it->value, it->charge,
@@ -493,9 +347,19 @@ static void take_back(object_client *client, const insertion *it) {
     (void)ferretgold_raw_object_take_gone(&client->session, &key, &value, &left);
 }
 
+/* The handle of an insertion. */
+static inline const ferretgold_object_handle *shown_of(object_client *client,
+                                                       const insertion *it) {
+    return shown(&client->records[it->handle.index], it->handle.serial, it->key, &it->value,
+                 it->charge);
+}
+
+/* The object of an insertion, for the checking library. */
+#define OBJECT_OF(it) ((const void *)(uintptr_t)(it)->value.address)
+
 /* Tries again where that helps: where the list was full the first call of a thread empties it, and
  * where the client was full, or spent, there may be another. */
-SLOWLY static uint32_t insert_again(object_cell *cell, insertion *it, way way, uint32_t status) {
+static uint32_t insert_again(object_cell *cell, insertion *it, way way, uint32_t status) {
     uint32_t tries = 0, changes = 0;
     for (;;) {
         const bool list_full = it->list_full || status == FERRETGOLD_GONE_FULL;
@@ -507,32 +371,51 @@ SLOWLY static uint32_t insert_again(object_cell *cell, insertion *it, way way, u
         } else if (status == FERRETGOLD_OK || !may_retry(cell, status, &changes)) {
             return status;
         }
+        cell->in_use->untaken = true;
         status = insert_once(cell->in_use, it, way);
     }
 }
 
-/* Inserts by the client of a call. Where a handle is given back at once, what stands alone is the
- * caller's again. */
-static inline uint32_t insert_by(object_cell *cell, insertion *it, way way) {
-    uint32_t status = insert_once(cell->in_use, it, way);
-    if (RARELY(status != FERRETGOLD_OK) || RARELY(it->list_full)) {
-        status = insert_again(cell, it, way, status);
-    }
-    if (way != COLD || RARELY(status != FERRETGOLD_OK)) {
-        return status;
-    }
-    if (RARELY(it->placing == FERRETGOLD_STANDALONE)) {
-        take_back(cell->in_use, it);
+/* Gives the handle back that nobody wants: what stands alone is the caller's again. */
+static void give_up_handle(object_client *client, insertion *it) {
+    if (it->placing == FERRETGOLD_STANDALONE) {
+        take_back(client, it);
         it->placing = FERRETGOLD_DROPPED;
     } else {
-        unpin(cell->in_use, it);
+        unpin(client, it);
     }
-    return status;
+}
+
+/* Goes on behind the first try of a call, and ends the call. */
+SLOWLY static outcome insert_further(object_cell *cell, insertion *it, way way, uint32_t status,
+                                     const ferretgold_object_handle **handle) {
+    cell->in_use->untaken = true;
+    if (status != FERRETGOLD_OK || it->list_full) {
+        status = insert_again(cell, it, way, status);
+    }
+    object_client *client = cell->in_use;
+    if (way == COLD && status == FERRETGOLD_OK) {
+        give_up_handle(client, it);
+    }
+    const outcome all = {status, status == FERRETGOLD_OK ? it->placing : FERRETGOLD_DROPPED};
+    uint64_t *number = outcome_of(&client->counts, status, all.placing, false);
+    if (number != NULL) {
+        count_more(number);
+    }
+    if (all.placing == FERRETGOLD_DROPPED) {
+        owned_ends(client->cache->owned, OBJECT_OF(it), it->value.kind);
+    }
+    if (way == PINNED && status == FERRETGOLD_OK) {
+        *handle = shown_of(client, it);
+    }
+    (void)leave(cell, status);
+    return all;
 }
 
 /* What an insertion comes to for which no client is to be had: with a handle its object stands
  * alone, if there is a record for it. */
-SLOWLY static uint32_t insert_nowhere(ferretgold_object_cache *cache, insertion *it, way way) {
+static uint32_t judged(ferretgold_object_cache *cache, const insertion *it, way way,
+                       record **spare) {
     if (it->priority >= PRIORITIES) {
         return FERRETGOLD_BAD_PRIORITY;
     }
@@ -542,72 +425,83 @@ SLOWLY static uint32_t insert_nowhere(ferretgold_object_cache *cache, insertion 
     if (it->value.address >> ADDRESS_BITS != 0) {
         return FERRETGOLD_TOO_HIGH;
     }
-    it->placing = way == PINNED ? FERRETGOLD_STANDALONE : FERRETGOLD_DROPPED;
-    it->spare = way == PINNED ? spare_taken(cache) : NULL;
-    return way == PINNED && it->spare == NULL ? FERRETGOLD_NO_CLIENT : FERRETGOLD_OK;
+    *spare = way == PINNED ? spare_taken(cache) : NULL;
+    return way == PINNED && *spare == NULL ? FERRETGOLD_NO_CLIENT : FERRETGOLD_OK;
 }
 
-/* The handle of an insertion. */
-static inline const ferretgold_object_handle *shown_of(object_cell *cell, const insertion *it) {
-    record *its = it->spare != NULL ? it->spare : &cell->in_use->records[it->handle.index];
-    return shown(its, it->handle.serial, it->key, &it->value, it->charge);
-}
-
-/* Counts an insertion by what came of it in the end. */
-static inline void count_put(ferretgold_object_cache *cache, const object_cell *cell,
-                             uint32_t status, uint32_t placing) {
-    ferretgold_counts *counts = RARELY(cell == NULL) ? &cache->nowhere : &cell->in_use->counts;
-    uint64_t *outcome = outcome_of(counts, status, placing, false);
-    if (RARELY(outcome == NULL)) {
-        return;
+static outcome insert_nowhere(ferretgold_object_cache *cache, const insertion *it, way way,
+                              const ferretgold_object_handle **handle) {
+    record *spare = NULL;
+    const uint32_t status = judged(cache, it, way, &spare);
+    const outcome all = {status, spare != NULL ? FERRETGOLD_STANDALONE : FERRETGOLD_DROPPED};
+    uint64_t *number = outcome_of(&cache->nowhere, status, all.placing, false);
+    if (number != NULL) {
+        count_together(number);
     }
-    if (RARELY(cell == NULL)) {
-        count_together(outcome);
+    if (spare != NULL) {
+        *handle = shown(spare, 0, it->key, &it->value, it->charge);
     } else {
-        count_more(outcome);
+        owned_ends(cache->owned, OBJECT_OF(it), it->value.kind);
     }
+    return all;
 }
 
-QUICKLY ferretgold_status insert(ferretgold_object_cache *cache, insertion *it, way way,
-                                 ferretgold_inserted *inserted,
-                                 const ferretgold_object_handle **handle, const char *call) {
-    const void *object = (const void *)(uintptr_t)it->value.address;
-    (void)call, (void)object;
+/* An insertion whose call doesn't begin at once. */
+SLOWLY static outcome insert_slowly(ferretgold_object_cache *cache, insertion *it, way way,
+                                    const ferretgold_object_handle **handle, const char *call) {
     object_cell *cell = enter(cache);
-    owned_begins(cache->owned, object, it->value.kind, call);
-    const uint32_t status = RARELY(cell == NULL) ? insert_nowhere(cache, it, way)
-                                                 : insert_by(cell, it, way);
-    count_put(cache, cell, status, it->placing);
-    if (RARELY(status != FERRETGOLD_OK) || RARELY(it->placing == FERRETGOLD_DROPPED)) {
-        owned_ends(cache->owned, object, it->value.kind);
+    (void)call;
+    owned_begins(cache->owned, OBJECT_OF(it), it->value.kind, call);
+    if (cell == NULL) {
+        return insert_nowhere(cache, it, way, handle);
     }
-    if (RARELY(status != FERRETGOLD_OK)) {
-        return cell != NULL ? leave(cell, status) : (ferretgold_status)status;
+    return insert_further(cell, it, way, insert_once(cell->in_use, it, way), handle);
+}
+
+/* Most are by the thread's own client, and place the object. */
+QUICKLY outcome insert(ferretgold_object_cache *cache, insertion *it, way way,
+                       const ferretgold_object_handle **handle, const char *call) {
+    object_cell *cell = cell_at_home(cache);
+    object_client *client = cell->client;
+    if (RARELY(!is_ready(cache, cell)) || RARELY(!entered_plainly(client, cell))) {
+        return insert_slowly(cache, it, way, handle, call);
     }
-    if (inserted != NULL) {
-        *inserted = (ferretgold_inserted)it->placing;
+    begin(cell, client);
+    owned_begins(cache->owned, OBJECT_OF(it), it->value.kind, call);
+    const uint32_t status = insert_once(client, it, way);
+    if (RARELY(status != FERRETGOLD_OK) || RARELY(it->placing != FERRETGOLD_PLACED)) {
+        return insert_further(cell, it, way, status, handle);
     }
+    if (way == COLD) {
+        unpin(client, it);
+    }
+    count_more(&client->counts.placed);
     if (way == PINNED) {
-        *handle = shown_of(cell, it);
+        *handle = shown_of(client, it);
     }
-    if (RARELY(cell == NULL) || RARELY(cell->depth > 1)) {
-        return cell != NULL ? leave(cell, FERRETGOLD_OK) : FERRETGOLD_OK;
+    delete_gone(cell, client);
+    end_at_once(cell, client);
+    return (outcome){FERRETGOLD_OK, FERRETGOLD_PLACED};
+}
+
+/* Tells what it came to. */
+static inline ferretgold_status tell(outcome all, ferretgold_inserted *inserted) {
+    if (all.status == FERRETGOLD_OK && inserted != NULL) {
+        *inserted = (ferretgold_inserted)all.placing;
     }
-    delete_all(cell);
-    end(cell);
-    return FERRETGOLD_OK;
+    return (ferretgold_status)all.status;
 }
 
 ferretgold_status ferretgold_object_insert(ferretgold_object_cache *cache,
                                            const ferretgold_key *key, void *object, uint16_t kind,
                                            uint32_t charge, ferretgold_priority priority,
                                            ferretgold_inserted *inserted) {
-    if (cache == NULL || key == NULL) {
+    if (RARELY(cache == NULL) || RARELY(key == NULL)) {
         return FERRETGOLD_NULL;
     }
     insertion it;
     ask(&it, key, object, kind, charge, priority);
-    return insert(cache, &it, PLAIN, inserted, NULL, __func__);
+    return tell(insert(cache, &it, PLAIN, NULL, __func__), inserted);
 }
 
 ferretgold_status ferretgold_object_insert_pinned(ferretgold_object_cache *cache,
@@ -616,16 +510,17 @@ ferretgold_status ferretgold_object_insert_pinned(ferretgold_object_cache *cache
                                                   ferretgold_priority priority,
                                                   ferretgold_inserted *inserted,
                                                   const ferretgold_object_handle **handle) {
-    if (cache == NULL || key == NULL) {
+    if (RARELY(cache == NULL) || RARELY(key == NULL)) {
         return FERRETGOLD_NULL;
     }
     insertion it;
     ask(&it, key, object, kind, charge, priority);
-    if (handle == NULL) {
-        return insert(cache, &it, COLD, inserted, NULL, __func__);
-    }
-    return insert(cache, &it, PINNED, inserted, handle, __func__);
+    return tell(handle == NULL ? insert(cache, &it, COLD, NULL, __func__)
+                               : insert(cache, &it, PINNED, handle, __func__),
+                inserted);
 }
+
+/* ---- Erasing --------------------------------------------------------------------------------- */
 
 ferretgold_status ferretgold_object_erase(ferretgold_object_cache *cache,
                                           const ferretgold_key *key, uint32_t *hidden) {

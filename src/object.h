@@ -43,6 +43,7 @@ typedef struct object_client {
     atomic_uint claim;              /* the thread that names it, and whether somebody claims it */
     atomic_bool inside;             /* its thread is in a call: written by that thread */
     bool untaken;                   /* something may be on the proved list */
+    bool freed;                     /* what a proved release told */
     atomic_bool used;               /* what the checking library knows of it */
     uint32_t number;
     _Alignas(LINE) ferretgold_counts counts; /* written by who uses it, and read by any thread */

@@ -32,18 +32,19 @@ OBJECTS = [f"src/{it}.c" for it in ("ferretgold", "closed", "counts", "drawing",
 # What is compiled only where there is xxhash.h.
 SAVED = ["file", "chosen", "object_file", "object_dump"]  # each with a test of that name
 SAVES = [*(f"src/{it}.c" for it in SAVED), "include/ferretgold_file.hpp"]
-HANDS = [f"src/object{it}.c" for it in ("", "_bytes", "_clients", "_counts", "_opening", "_queue", "_walk")]
+HANDS = [f"src/object{it}.c" for it in ("", "_bytes", "_call", "_clients", "_counts", "_opening", "_queue", "_walk")]
 FILES = ["include/ferretgold.h", "include/ferretgold_inline.h", "include/ferretgold.hpp", *OBJECTS, *SAVES, *HANDS]
 STORE = "tests/c/object_store.cpp"
 APART = {*SAVES, *HANDS, STORE}  # what no trace shows
 # The functions with bugs, in files of which not all have them.
-CHOSEN = {"src/object.c": "shown shown_by ferretgold_object_ref unpin take_back ferretgold_object_erase told".split(),
+CHOSEN = {"src/object.c": "shown shown_by ferretgold_object_ref unpin take_back give_up_handle tell"
+                          " ferretgold_object_erase told".split(),
           **{it: [] for it in HANDS[1:-1]}}
 CALLS = {"include/ferretgold_inline.h", "src/ferretgold.c"}  # where the checking library differs
 HEADERS = ["include/ferretgold_raw.h", "include/ferretgold_closed.h", "include/ferretgold_object.h",
            "include/ferretgold_file.h", "include/ferretgold_image.h", "include/ferretgold_object.hpp",
            "src/chosen.h", "src/closed.h", "src/counts.h", "src/file.h", "src/heap.h", "src/limits.h", "src/object.h",
-           "src/opening.h", "src/walk.h"]
+           "src/object_call.h", "src/opening.h", "src/walk.h"]
 CHANCE = "by chance: "
 PLAYS = [f"tests/c/{it}.c" for it in ("play", "edges", "counted", "seeds", "budgets", "closed", "image")]
 CPP = ["tests/c/play.cpp", "tests/c/closed.cpp"]

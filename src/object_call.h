@@ -1,0 +1,114 @@
+/* A call on a cache of objects from its beginning to its end: in the thread's own client at once, if
+ * nothing else is to be done first, or slowly. */
+#ifndef OBJECT_CALL_H
+#define OBJECT_CALL_H
+
+#include "object.h"
+
+/* ---- object_call.c --------------------------------------------------------------------------- */
+
+/* Begins a call where more is to be done than that: null if no client is to be had. */
+object_cell *enter_slowly(ferretgold_object_cache *cache);
+
+/* Begins a call that only this client can serve; null if the thread hasn't it at hand. */
+object_cell *enter_own(object_client *client);
+
+/* Runs the deleters of all that is on the list of a call's client, or is of none: what their calls
+ * put there, too. */
+void run_deleters(object_cell *it);
+
+/* Runs the deleter of one object of no client. Whether there was one. */
+bool has_deleted_alone(ferretgold_object_cache *cache, object_cell *cell);
+
+/* Whether a call that this status refuses is to be tried again: other threads gave back handles of
+ * its client, or it has another client now. */
+bool may_retry(object_cell *it, uint32_t status, uint32_t *changes);
+
+/* Gives back what waits on a client that is in no call; and on all of them. */
+void relieve(object_cell *it, object_client *client);
+void relieve_all(ferretgold_object_cache *cache);
+
+/* ---- Beginning ------------------------------------------------------------------------------- */
+
+/* A thread is in a call of this client: the first one, whose deleters' calls go through it, too. */
+static inline void begin(object_cell *it, object_client *client) {
+    it->in_use = client;
+    it->depth = 1;
+    it->ready = 0;
+}
+
+/* Whether the cell in a cache's home is the cache's, has a client, and is in no call. */
+static inline bool is_ready(const ferretgold_object_cache *cache, const object_cell *it) {
+    return it->ready == cache->life;
+}
+
+/* Whether the client of such a cell began a call: not where something else is to be done first. */
+static inline bool entered_plainly(object_client *client, const object_cell *it) {
+    return atomic_load_explicit(&client->queue, memory_order_relaxed) == NULL
+           && client_entered(client, it);
+}
+
+/* Begins a call that needs a client: the thread's cell of the cache; null if none is to be had. */
+QUICKLY object_cell *enter(ferretgold_object_cache *cache) {
+    object_cell *it = cell_at_home(cache);
+    object_client *client = it->client;
+    if (RARELY(!is_ready(cache, it)) || RARELY(!entered_plainly(client, it))) {
+        return enter_slowly(cache);
+    }
+    begin(it, client);
+    return it;
+}
+
+/* ---- Ending ---------------------------------------------------------------------------------- */
+
+/* What delete_all does, of the first call of a thread. */
+QUICKLY void delete_gone(object_cell *it, object_client *client) {
+    ferretgold_key key;
+    ferretgold_object_value value;
+    do {
+        size_t left = 1;
+        while (left > 0
+               && ferretgold_raw_object_take_gone(&client->session, &key, &value, &left)
+                      == FERRETGOLD_OK) {
+            client->untaken = false;
+            delete_object(client->cache, &key, &value);
+            left += client->untaken; /* by its own calls */
+        }
+    } while (RARELY(it->alone != NULL) && has_deleted_alone(client->cache, it));
+    client->untaken = false;
+}
+
+/* Ends the first call of a thread. */
+static inline void end(object_cell *it) {
+    object_client *client = it->client;
+    it->depth = 0;
+    if (RARELY(it->in_use != client)) {
+        client_unclaimed(it->in_use);
+        it->ready = client != NULL && !has_backlog(client) ? it->life : 0;
+        return;
+    }
+    client_left(client);
+    it->ready = has_backlog(client) ? 0 : it->life;
+}
+
+/* Ends one that began at once: its deleters' calls changed neither its client nor the backlog. */
+static inline void end_at_once(object_cell *it, object_client *client) {
+    it->depth = 0;
+    it->ready = it->life;
+    client_left(client);
+}
+
+/* Ends a call: the first of a thread runs the deleters of what was freed. */
+static inline ferretgold_status leave(object_cell *it, uint32_t status) {
+    if (RARELY(it->depth > 1)) {
+        it->depth -= 1;
+        return (ferretgold_status)status;
+    }
+    if (it->in_use->untaken) {
+        run_deleters(it);
+    }
+    end(it);
+    return (ferretgold_status)status;
+}
+
+#endif
