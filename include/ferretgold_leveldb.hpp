@@ -337,15 +337,15 @@ inline leveldb::Cache::Handle *leveldb_cache::Insert(const Slice &key, void *val
 }
 
 inline leveldb::Cache::Handle *leveldb_cache::Lookup(const Slice &key) {
-    const ferretgold_key at = found_by(key);
-    const ferretgold_object_handle *handle = nullptr;
-    if (ferretgold_object_lookup(cache_, &at, &handle) != FERRETGOLD_OK) {
+    const ferretgold_object_handle *handle =
+        cache_ != nullptr ? ferretgold_object_find(cache_, found_by(key)) : nullptr;
+    if (handle == nullptr) {
         return nullptr;
     }
     if (static_cast<node *>(handle->object)->key() == key) {
         return handle_on(handle, LOOKED_UP);
     }
-    (void)ferretgold_object_release(cache_, handle, false, false, nullptr);
+    (void)ferretgold_object_give_back(cache_, handle, false, false);
     return nullptr;
 }
 
@@ -354,9 +354,9 @@ inline void leveldb_cache::Release(Handle *handle) {
         delete_node(node_of(handle));
         return;
     }
-    (void)ferretgold_object_release(cache_,
-                                    static_cast<ferretgold_object_handle *>(pointer_of(handle)),
-                                    bits_of(handle) == LOOKED_UP, false, nullptr);
+    (void)ferretgold_object_give_back(cache_,
+                                      static_cast<ferretgold_object_handle *>(pointer_of(handle)),
+                                      bits_of(handle) == LOOKED_UP, false);
 }
 
 inline void leveldb_cache::Prune() {

@@ -71,8 +71,9 @@
  *
  * COSTS
  *   Calls allocate nothing, except opening, and an insertion of bytes their copy. A look-up and a
- *   release cost what the proved calls do, which load the charge, too, and at most 50 instructions
- *   each where the client is the thread's own and nothing waits to be given back.
+ *   release cost what the proved calls do, which load the charge, too, and at most 55 instructions
+ *   each where the client is the thread's own and nothing waits to be given back; find and
+ *   give_back, which tell no status, at most 45.
  *   Bounds of atomic steps are those of the proved calls, times the tries of an insertion, with a
  *   release for each of at most 4 handles that other threads gave back.
  */
@@ -210,6 +211,10 @@ ferretgold_status ferretgold_object_pin_at(ferretgold_object_cache *cache, uint3
                                            uint32_t slot,
                                            const ferretgold_object_handle **handle);
 
+/* Returns the handle of a look-up: null for each answer but OK. `cache` isn't null. */
+const ferretgold_object_handle *ferretgold_object_find(ferretgold_object_cache *cache,
+                                                       ferretgold_key key);
+
 /*
  * Counts one more reference on a handle, which has to be given back once for each. Any thread that
  * may use the handle may call this. Costs an atomic add. Needs no client.
@@ -229,6 +234,11 @@ ferretgold_status ferretgold_object_ref(ferretgold_object_cache *cache,
 ferretgold_status ferretgold_object_release(ferretgold_object_cache *cache,
                                             const ferretgold_object_handle *handle, bool useful,
                                             bool erase_if_last, bool *freed);
+
+/* The same, and returns whether this call freed an entry. No pointer is null. */
+bool ferretgold_object_give_back(ferretgold_object_cache *cache,
+                                 const ferretgold_object_handle *handle, bool useful,
+                                 bool erase_if_last);
 
 /*
  * Gives back what waits on queues of clients that are in no call, so that its entries can go. Costs

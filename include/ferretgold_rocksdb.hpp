@@ -287,13 +287,9 @@ class rocksdb_cache final : public rocksdb::Cache {
     }
 
     Handle *Lookup(const rocksdb::Slice &key, rocksdb::Statistics * = nullptr) override {
-        if (key.size() != sizeof(ferretgold_key)) {
-            return nullptr;
-        }
-        const ferretgold_key wanted = key_of(key);
-        const ferretgold_object_handle *found = nullptr;
-        (void)ferretgold_object_lookup(cache_, &wanted, &found);
-        return handle_of(found);
+        return key.size() == sizeof(ferretgold_key)
+                   ? handle_of(ferretgold_object_find(cache_, key_of(key)))
+                   : nullptr;
     }
 
     bool Ref(Handle *handle) override {
@@ -301,13 +297,11 @@ class rocksdb_cache final : public rocksdb::Cache {
     }
 
     bool Release(Handle *handle, bool useful, bool erase_if_last_ref) override {
-        bool freed = false;
-        if (handle != nullptr) {
-            (void)ferretgold_object_release(cache_, shown(handle),
-                                            useful && !is_of_insertion(handle), erase_if_last_ref,
-                                            &freed);
+        if (handle == nullptr) {
+            return false;
         }
-        return freed;
+        return is_of_insertion(handle) ? given_back(shown(handle), false, erase_if_last_ref)
+                                       : given_back(unmarked(handle), useful, erase_if_last_ref);
     }
 
     bool Release(Handle *handle, bool erase_if_last_ref = false) override {
@@ -467,6 +461,15 @@ class rocksdb_cache final : public rocksdb::Cache {
 
     static bool is_of_insertion(const Handle *handle) noexcept {
         return (reinterpret_cast<std::uintptr_t>(handle) & INSERTION) != 0;
+    }
+
+    // The same as `shown` of one that is of none.
+    static const ferretgold_object_handle *unmarked(const Handle *handle) noexcept {
+        return reinterpret_cast<const ferretgold_object_handle *>(handle);
+    }
+
+    bool given_back(const ferretgold_object_handle *it, bool useful, bool erase) {
+        return ferretgold_object_give_back(cache_, it, useful, erase);
     }
 
     // ---- Insertions ----

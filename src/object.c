@@ -115,6 +115,13 @@ ferretgold_status ferretgold_object_lookup(ferretgold_object_cache *cache,
     return (ferretgold_status)all.status;
 }
 
+const ferretgold_object_handle *ferretgold_object_find(ferretgold_object_cache *cache,
+                                                       ferretgold_key key) {
+    ferretgold_held_object held;
+    held.key = key;
+    return looked_up(cache, &held).handle;
+}
+
 ferretgold_status ferretgold_object_pin_at(ferretgold_object_cache *cache, uint32_t shard,
                                            uint32_t slot,
                                            const ferretgold_object_handle **handle) {
@@ -287,6 +294,12 @@ ferretgold_status ferretgold_object_release(ferretgold_object_cache *cache,
     }
     record *it = record_of(handle);
     return (ferretgold_status)released(cache, it, useful, erase_if_last, freed).status;
+}
+
+bool ferretgold_object_give_back(ferretgold_object_cache *cache,
+                                 const ferretgold_object_handle *handle, bool useful,
+                                 bool erase_if_last) {
+    return released(cache, record_of(handle), useful, erase_if_last, NULL).freed;
 }
 
 /* ---- Inserting ------------------------------------------------------------------------------- */

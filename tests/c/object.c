@@ -224,6 +224,38 @@ static void unused_and_dropped(void) {
     EXPECT(log.count, 1);
 }
 
+/* Calls that return a handle, or whether an entry was freed. */
+static void without_status(void) {
+    journal log = {0};
+    const ferretgold_object_config config = small_cache();
+    ferretgold_object_cache *cache = opened(&config, note, &log);
+    ferretgold_object_cache *other = opened(&config, note, &log);
+    const ferretgold_object_handle *handles[4] = {NULL};
+    int block = 0;
+    EXPECT(ferretgold_object_find(cache, key_of(1)) == NULL, true);
+    EXPECT(insert(cache, 1, &block, 10), FERRETGOLD_PLACED);
+    EXPECT(ferretgold_object_find(other, key_of(1)) == NULL, true);
+    for (unsigned k = 0; k < 4; k++) {
+        handles[k] = ferretgold_object_find(cache, key_of(1));
+        EXPECT(handles[k] != NULL && handles[k]->object == &block && handles[k]->kind == 3, true);
+        EXPECT(handles[k]->key.w0 == 1 && handles[k]->charge == 10, true);
+    }
+    EXPECT(ferretgold_object_find(cache, key_of(1)) == NULL, true); /* no handle is left */
+    EXPECT(ferretgold_object_give_back(other, handles[0], false, true), false);
+    for (unsigned k = 0; k < 4; k++) {
+        EXPECT(ferretgold_object_give_back(cache, handles[k], k == 3, k < 3), false);
+    }
+    EXPECT(ferretgold_object_give_back(cache, handles[3], true, true), false); /* it was */
+    EXPECT(log.count, 0);
+    handles[0] = ferretgold_object_find(cache, key_of(1));
+    EXPECT(ferretgold_object_give_back(cache, handles[0], false, true), true);
+    EXPECT(log.count == 1 && log.deleted[0].object == &block, true);
+    EXPECT(ferretgold_object_find(cache, key_of(1)) == NULL, true);
+    EXPECT(ferretgold_object_close(other), FERRETGOLD_OK);
+    EXPECT(ferretgold_object_close(cache), FERRETGOLD_OK);
+    EXPECT(log.count, 1);
+}
+
 /* A walk holds what is there. */
 static void walk(void) {
     journal log = {0};
@@ -580,6 +612,7 @@ static void object_rows(void) {
     alone();
     unused();
     unused_and_dropped();
+    without_status();
     walk();
     totals();
     refused_after_evictions();
