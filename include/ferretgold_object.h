@@ -280,6 +280,11 @@ ferretgold_status ferretgold_object_insert_pinned(ferretgold_object_cache *cache
                                                   ferretgold_inserted *inserted,
                                                   const ferretgold_object_handle **handle);
 
+/* The same with no handle, and returns whether the object is placed: else it is the caller's still.
+ * `cache` and `key` aren't null. */
+bool ferretgold_object_put(ferretgold_object_cache *cache, const ferretgold_key *key, void *object,
+                           uint16_t kind, uint32_t charge, ferretgold_priority priority);
+
 /*
  * Hides each visible entry of the key, and makes one try to free each that nobody holds, as
  * ferretgold_erase does. `hidden` gets how many were hidden; it may be null.

@@ -106,14 +106,8 @@ class deleter_kinds {
         if (it == nullptr) {
             return NOTHING;
         }
-        std::size_t place = first_of(it);
-        if (table_[place].load(std::memory_order_acquire) != it) {
-            place = place_of(it);
-            if (place == MOST || table_[place].load(std::memory_order_acquire) != it) {
-                return added(it);
-            }
-        }
-        return kind_at(place);
+        const std::size_t place = first_of(it);
+        return table_[place].load(std::memory_order_acquire) == it ? kind_at(place) : further(it);
     }
 
     // The deleter of a kind, or null.
@@ -145,6 +139,14 @@ class deleter_kinds {
             }
         }
         return MOST;
+    }
+
+    // The kind of one that isn't where it is looked for first.
+    [[gnu::noinline, gnu::cold]] std::uint16_t further(deleter it) noexcept {
+        const std::size_t place = place_of(it);
+        return place != MOST && table_[place].load(std::memory_order_acquire) == it
+                   ? kind_at(place)
+                   : added(it);
     }
 
     std::uint16_t added(deleter it) noexcept {
@@ -267,21 +269,15 @@ class rocksdb_cache final : public rocksdb::Cache {
         if (handle != nullptr) {
             *handle = nullptr;
         }
-        if (key.size() != sizeof(ferretgold_key)) {
-            return rocksdb::Status::NotSupported("keys have 16 bytes");
-        }
-        if (charge > UINT32_MAX) {
-            return rocksdb::Status::NotSupported("a charge is below 2^32");
-        }
-        if (static_cast<std::uint64_t>(reinterpret_cast<std::uintptr_t>(value)) >> 48 != 0) {
-            return rocksdb::Status::NotSupported("a value lies below 2^48");
+        if (key.size() != sizeof(ferretgold_key) || charge > UINT32_MAX || is_high(value)) {
+            return refusal(key, charge);
         }
         const std::uint16_t kind = deleters_.of(deleter);
         if (kind == deleter_kinds::UNKNOWN) {
             return rocksdb::Status::NotSupported("a cache knows 4,096 deleters");
         }
         const ferretgold_key at = key_of(key);
-        const object it{value, kind, static_cast<std::uint32_t>(std::max<std::size_t>(charge, 1))};
+        const object it{value, kind, static_cast<std::uint32_t>(charge + (charge == 0))};
         return handle != nullptr ? inserted_with(at, it, priority, handle)
                                  : inserted_without(at, it, priority);
     }
@@ -474,6 +470,19 @@ class rocksdb_cache final : public rocksdb::Cache {
 
     // ---- Insertions ----
 
+    static bool is_high(const void *value) noexcept {
+        return static_cast<std::uint64_t>(reinterpret_cast<std::uintptr_t>(value)) >> 48 != 0;
+    }
+
+    // Why an insertion is refused before it is tried.
+    [[gnu::noinline, gnu::cold]] static rocksdb::Status refusal(const rocksdb::Slice &key,
+                                                                std::size_t charge) {
+        return rocksdb::Status::NotSupported(
+            key.size() != sizeof(ferretgold_key) ? "keys have 16 bytes"
+            : charge > UINT32_MAX                ? "a charge is below 2^32"
+                                                 : "a value lies below 2^48");
+    }
+
     // Where the handle is given back as no use, a new entry begins one below this rank.
     static ferretgold_priority rank_of(Priority priority) noexcept {
         return priority == Priority::HIGH ? FERRETGOLD_LOW : FERRETGOLD_BOTTOM;
@@ -496,10 +505,7 @@ class rocksdb_cache final : public rocksdb::Cache {
     // Also what finds no place, or is refused, is the cache's, which deletes it.
     rocksdb::Status inserted_without(const ferretgold_key &key, const object &it,
                                      Priority priority) {
-        ferretgold_inserted inserted = FERRETGOLD_DROPPED;
-        (void)ferretgold_object_insert_pinned(cache_, &key, it.value, it.kind, it.charge,
-                                              rank_of(priority), &inserted, nullptr);
-        if (inserted != FERRETGOLD_PLACED) {
+        if (!ferretgold_object_put(cache_, &key, it.value, it.kind, it.charge, rank_of(priority))) {
             deleted(this, &key, it.value, it.kind);
         }
         return rocksdb::Status::OK();

@@ -533,6 +533,13 @@ ferretgold_status ferretgold_object_insert_pinned(ferretgold_object_cache *cache
                 inserted);
 }
 
+bool ferretgold_object_put(ferretgold_object_cache *cache, const ferretgold_key *key, void *object,
+                           uint16_t kind, uint32_t charge, ferretgold_priority priority) {
+    insertion it;
+    ask(&it, key, object, kind, charge, priority);
+    return insert(cache, &it, COLD, NULL, __func__).placing == FERRETGOLD_PLACED;
+}
+
 /* ---- Erasing --------------------------------------------------------------------------------- */
 
 ferretgold_status ferretgold_object_erase(ferretgold_object_cache *cache,

@@ -224,7 +224,7 @@ static void unused_and_dropped(void) {
     EXPECT(log.count, 1);
 }
 
-/* Calls that return a handle, or whether an entry was freed. */
+/* Calls that return a handle, or whether an entry was freed or an object is placed. */
 static void without_status(void) {
     journal log = {0};
     const ferretgold_object_config config = small_cache();
@@ -251,9 +251,14 @@ static void without_status(void) {
     EXPECT(ferretgold_object_give_back(cache, handles[0], false, true), true);
     EXPECT(log.count == 1 && log.deleted[0].object == &block, true);
     EXPECT(ferretgold_object_find(cache, key_of(1)) == NULL, true);
+    const ferretgold_key key = key_of(2);
+    EXPECT(ferretgold_object_put(cache, &key, &block, 3, 0, FERRETGOLD_LOW), false);
+    EXPECT(ferretgold_object_put(cache, &key, &block, 3, 10, FERRETGOLD_LOW), true);
+    EXPECT(ferretgold_object_put(cache, &key, &log, 3, 10, FERRETGOLD_LOW), false);
+    EXPECT(log.count, 1);
     EXPECT(ferretgold_object_close(other), FERRETGOLD_OK);
     EXPECT(ferretgold_object_close(cache), FERRETGOLD_OK);
-    EXPECT(log.count, 1);
+    EXPECT(log.count == 2 && log.deleted[1].object == &block, true);
 }
 
 /* A walk holds what is there. */

@@ -24,7 +24,7 @@ IN_CPP = {"ferretgold.hpp": HEADERS[:3], "ferretgold_file.hpp": HEADERS[3:4],
           "ferretgold_object.hpp": HEADERS[4:]}
 # For which C++ and Rust have types, and what neither has.
 ONLY_IN_C = tuple(f"ferretgold_object_{it}" for it in ("free_bytes", "insert_bytes", "bytes", "find", "give_back",
-                                                       "walk", "visit", "save", "load"))
+                                                       "put", "walk", "visit", "save", "load"))
 # By which name a function is linked.
 LINKED = r"FERRETGOLD_LINKED\((\w+)\)"
 # Functions of the caller's, which the library calls.
