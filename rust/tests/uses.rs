@@ -47,49 +47,50 @@ macro_rules! inserted {
     };
 }
 
+/// What is done with an entry, and its countdown then.
+const OF_BYTES: [(&str, fn(&Client), u32); 13] = [
+    ("high", |it| insert(it, High), 3),
+    ("low", |it| insert(it, Low), 2),
+    ("by default", |it| insert(it, Priority::default()), 2),
+    ("bottom", |it| insert(it, Bottom), 1),
+    ("dropped", inserted!(it: drop(it.lookup(KEY).unwrap())), 2),
+    (
+        "two dropped",
+        inserted!(it: drop(it.lookup(KEY).unwrap().map(|one| (one.reref(), one)))),
+        3,
+    ),
+    (
+        "given back as a use",
+        inserted!(it: it.lookup(KEY).unwrap().unwrap().release(true, false)),
+        2,
+    ),
+    (
+        "given back as none",
+        inserted!(it: it.lookup(KEY).unwrap().unwrap().release(false, false)),
+        1,
+    ),
+    ("forgotten", inserted!(it: forget(it.lookup(KEY))), 1),
+    ("read", inserted!(it: it.get(KEY, &mut [0; 2], true)), 2),
+    (
+        "read as no use",
+        inserted!(it: it.get(KEY, &mut [0; 2], false)),
+        1,
+    ),
+    (
+        "held since its insertion",
+        |it| drop(it.insert_pinned(KEY, b"it", 1, Low).unwrap()),
+        2,
+    ),
+    (
+        "forgotten since its insertion",
+        |it| forget(it.insert_pinned(KEY, b"it", 1, Low)),
+        1,
+    ),
+];
+
 #[test]
 fn handles_on_bytes_are_uses_unless_they_are_given_back_otherwise() {
-    type Row = (&'static str, fn(&Client), u32);
-    let rows: [Row; 13] = [
-        ("high", |it| insert(it, High), 3),
-        ("low", |it| insert(it, Low), 2),
-        ("by default", |it| insert(it, Priority::default()), 2),
-        ("bottom", |it| insert(it, Bottom), 1),
-        ("dropped", inserted!(it: drop(it.lookup(KEY).unwrap())), 2),
-        (
-            "two dropped",
-            inserted!(it: drop(it.lookup(KEY).unwrap().map(|one| (one.reref(), one)))),
-            3,
-        ),
-        (
-            "given back as a use",
-            inserted!(it: it.lookup(KEY).unwrap().unwrap().release(true, false)),
-            2,
-        ),
-        (
-            "given back as none",
-            inserted!(it: it.lookup(KEY).unwrap().unwrap().release(false, false)),
-            1,
-        ),
-        ("forgotten", inserted!(it: forget(it.lookup(KEY))), 1),
-        ("read", inserted!(it: it.get(KEY, &mut [0; 2], true)), 2),
-        (
-            "read as no use",
-            inserted!(it: it.get(KEY, &mut [0; 2], false)),
-            1,
-        ),
-        (
-            "held since its insertion",
-            |it| drop(it.insert_pinned(KEY, b"it", 1, Low).unwrap()),
-            2,
-        ),
-        (
-            "forgotten since its insertion",
-            |it| forget(it.insert_pinned(KEY, b"it", 1, Low)),
-            1,
-        ),
-    ];
-    for (name, done, uses) in rows {
+    for (name, done, uses) in OF_BYTES {
         assert_eq!(uses_after(done), uses, "{name}");
     }
 }
@@ -179,82 +180,83 @@ fn load_for_another(cache: &Objects<u8>) {
     cache.collect();
 }
 
+/// What is done with the entry, and its uses then.
+const OF_OBJECTS: [(&str, fn(&Objects<u8>), usize); 16] = [
+    (
+        "high",
+        |it| drop(it.insert_with_priority(&FIRST, 1, 10, High)),
+        3,
+    ),
+    (
+        "low",
+        |it| drop(it.insert_with_priority(&FIRST, 1, 10, Low)),
+        2,
+    ),
+    ("never used", |it| drop(it.insert(&FIRST, 1, 10)), 0),
+    (
+        "held since its insertion",
+        |it| drop(it.insert_pinned(&FIRST, 1, 10, Low)),
+        1,
+    ),
+    (
+        "and given back as a use",
+        |it| {
+            assert!(!it
+                .insert_pinned(&FIRST, 1, 10, Low)
+                .unwrap()
+                .1
+                .release(true, false))
+        },
+        2,
+    ),
+    (
+        "loaded",
+        |it| drop(it.get_or_insert_with(&FIRST, || Ok::<_, ()>((1, 10)))),
+        0,
+    ),
+    ("dropped", put!(it: drop(it.get(&FIRST).unwrap())), 2),
+    (
+        "given back as a use",
+        put!(it: it.get(&FIRST).unwrap().release(true, false)),
+        2,
+    ),
+    (
+        "given back as none",
+        put!(it: it.get(&FIRST).unwrap().release(false, false)),
+        1,
+    ),
+    (
+        "found in place of a load",
+        put!(it: drop(it.get_or_insert_with(&FIRST, || Err::<(u8, u32), _>(())))),
+        2,
+    ),
+    ("walked over", put!(it: assert_eq!(it.iter().count(), 1)), 1),
+    (
+        "used on a walk",
+        put!(it: it.iter().for_each(|it| assert!(!it.release(true, false)))),
+        2,
+    ),
+    (
+        "not meant",
+        put!(it: assert_eq!(it.erase_where(|_| false), Ok(0))),
+        1,
+    ),
+    ("met", put!(it: drop(it.insert(&FIRST, 2, 10))), 2),
+    ("loaded by another thread", load_for_another, 1),
+    (
+        "dropped elsewhere",
+        put!(it: {
+            let held = it.get(&FIRST).unwrap();
+            std::thread::spawn(|| drop(held)).join().unwrap();
+            it.collect();
+        }),
+        2,
+    ),
+];
+
 #[test]
 fn what_is_found_is_used_and_nothing_else() {
-    type Row = (&'static str, fn(&Objects<u8>), usize);
-    let rows: [Row; 16] = [
-        (
-            "high",
-            |it| drop(it.insert_with_priority(&FIRST, 1, 10, High)),
-            3,
-        ),
-        (
-            "low",
-            |it| drop(it.insert_with_priority(&FIRST, 1, 10, Low)),
-            2,
-        ),
-        ("never used", |it| drop(it.insert(&FIRST, 1, 10)), 0),
-        (
-            "held since its insertion",
-            |it| drop(it.insert_pinned(&FIRST, 1, 10, Low)),
-            1,
-        ),
-        (
-            "and given back as a use",
-            |it| {
-                assert!(!it
-                    .insert_pinned(&FIRST, 1, 10, Low)
-                    .unwrap()
-                    .1
-                    .release(true, false))
-            },
-            2,
-        ),
-        (
-            "loaded",
-            |it| drop(it.get_or_insert_with(&FIRST, || Ok::<_, ()>((1, 10)))),
-            0,
-        ),
-        ("dropped", put!(it: drop(it.get(&FIRST).unwrap())), 2),
-        (
-            "given back as a use",
-            put!(it: it.get(&FIRST).unwrap().release(true, false)),
-            2,
-        ),
-        (
-            "given back as none",
-            put!(it: it.get(&FIRST).unwrap().release(false, false)),
-            1,
-        ),
-        (
-            "found in place of a load",
-            put!(it: drop(it.get_or_insert_with(&FIRST, || Err::<(u8, u32), _>(())))),
-            2,
-        ),
-        ("walked over", put!(it: assert_eq!(it.iter().count(), 1)), 1),
-        (
-            "used on a walk",
-            put!(it: it.iter().for_each(|it| assert!(!it.release(true, false)))),
-            2,
-        ),
-        (
-            "not meant",
-            put!(it: assert_eq!(it.erase_where(|_| false), Ok(0))),
-            1,
-        ),
-        ("met", put!(it: drop(it.insert(&FIRST, 2, 10))), 2),
-        ("loaded by another thread", load_for_another, 1),
-        (
-            "dropped elsewhere",
-            put!(it: {
-                let held = it.get(&FIRST).unwrap();
-                std::thread::spawn(|| drop(held)).join().unwrap();
-                it.collect();
-            }),
-            2,
-        ),
-    ];
-    for (name, done, uses) in rows {
+    for (name, done, uses) in OF_OBJECTS {
         assert_eq!(uses_of(done), Some(uses), "{name}");
     }
 }

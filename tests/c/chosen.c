@@ -13,7 +13,7 @@ enum { MOST_FILE = 40 + 4096 };
 
 enum { PLACES = 6, SLOTS = 8, ROOM = 2, MOST_USES = 553651204, MOST_ROWS = 9 };
 enum { ROUNDS = 200, DRAWN = 300, KEYS = 150, WIDE = 256 }; /* of drawn files */
-enum { AGAIN = 10000 };
+enum { AGAIN = 5000 };
 
 /* ---- Files ----------------------------------------------------------------------------------- */
 
@@ -30,7 +30,7 @@ typedef struct source {
     const entry *listed; /* NULL: they have keys of their own, and those that come in are the first or the last */
     uint32_t length;     /* of their values */
     bool are_equal;      /* in uses: the first come in; else each has more than the one before */
-    uint64_t again;      /* from which on keys come again, those of 10,000 entries before; 0: they don't */
+    uint64_t again;      /* from which on keys come again, those of AGAIN entries before; 0: they don't */
     uint64_t given;      /* parts so far: the begin and entries */
     image part;          /* the one that is read */
     int ends;            /* calls that got fewer bytes than they asked for */
@@ -39,7 +39,8 @@ typedef struct source {
 static entry entry_of(const source *from, uint64_t number) {
     const bool in = from->are_equal ? number < PLACES : number + PLACES >= from->entries;
     const bool is_again = from->again != 0 && number >= from->again;
-    const entry more = {is_again ? number - AGAIN : number, from->are_equal ? 1 : (uint32_t)number, 1, from->length, in};
+    const uint64_t key = is_again ? number - AGAIN : number;
+    const entry more = {key, from->are_equal ? 1 : (uint32_t)number, 1, from->length, in};
     return from->listed != NULL ? from->listed[number] : more;
 }
 
@@ -399,7 +400,8 @@ static void largest(uint32_t shards, source from, uint64_t first, uint64_t left)
         const uint32_t shard = place / MOST_SLOTS, slot = place % MOST_SLOTS;
         if (ferretgold_closed_entry(closed, shard, slot, &is) == FERRETGOLD_OK) {
             const uint64_t key = ~is.key.w1;
-            const uint64_t number = from.again != 0 && key + AGAIN >= from.again ? key + AGAIN : key;
+            const bool is_again = from.again != 0 && key + AGAIN >= from.again && key + AGAIN < from.entries;
+            const uint64_t number = is_again ? key + AGAIN : key;
             const entry it = entry_of(&from, number);
             EXPECT(number >= first && number < from.entries && !seen[number], true);
             EXPECT(is_entry(closed, shard, slot, &is, number, &it), true);
@@ -420,7 +422,7 @@ int main(int count, char **words) {
         each_size();
         many(70000);
         largest(1, (source){.entries = 60000, .length = 8}, 60000 - 55050, 55050);
-        largest(1, (source){.entries = 60000, .length = 8, .again = 50000}, 0, 50000);
+        largest(1, (source){.entries = 65000, .length = 8, .again = 60000}, 60000 - 55050, 55050);
         largest(2, (source){.entries = 70000, .length = 8}, 0, 70000);
     } else if (count == 3 && strcmp(words[1], "many") == 0) {
         many(strtoull(words[2], NULL, 10));

@@ -116,8 +116,10 @@ void *__wrap_realloc(void *at, size_t size) {
     return counted(__real_realloc(at, size + BEHIND), size);
 }
 
+/* Sanitizers refuse a size that isn't a multiple of the alignment. */
 void *__wrap_aligned_alloc(size_t alignment, size_t size) {
-    return refuses() ? NULL : counted(__real_aligned_alloc(alignment, size + BEHIND), size);
+    const size_t lines = (size + BEHIND + alignment - 1) / alignment;
+    return refuses() ? NULL : counted(__real_aligned_alloc(alignment, lines * alignment), size);
 }
 
 void __wrap_free(void *at) {

@@ -21,7 +21,8 @@ pub fn program() {
     let client = cache.client().unwrap();
     let (_, handle) = client.insert_pinned(key, b"", 1, Priority::Low).unwrap();
     let other = Cache::open(&config).unwrap();
-    let objects = Objects::<u8>::open(&ObjectConfig::default()).unwrap();
+    let config_of_objects = ObjectConfig::default();
+    let objects = Objects::<u8>::open(&config_of_objects).unwrap();
     let mut held = objects.get(&[7; 16]).unwrap();
     %s
     let _ = (&mut held, &handle, &other, &image);
@@ -32,12 +33,12 @@ RUST_LINES = [
     ("drop(client);", r"E0505\].*`client` because it is borrowed"),
     ("drop(cache);", r"E0505\].*`cache` because it is borrowed"),
     ("std::thread::scope(|it| it.spawn(|| handle.len()));", r"E0277\].*`NonNull<.*Client>` cannot be shared"),
-    ("let mine = cache.client(); std::thread::spawn(move || drop(mine));", r"E0597\].*`cache` does not live long enough"),
+    ("let mine = cache.client(); std::thread::spawn(move || drop(mine));", r"E0597\].*`cache` does not live"),
     ("let _ = Cache::reopen(&config, image);", r"E0382\].*`image`"),
-    ("let left = other.close_keeping(); std::thread::spawn(|| left.is_ok());", r"E0277\].*`NonNull<.*Closed>` cannot be"),
+    ("let left = other.close_keeping(); std::thread::spawn(|| left.is_ok());", r"E0277\].*`NonNull<.*Closed>`"),
     ("*held = 8;", r"E0594\].*dereference of `Pinned<u8>`"),
     ("held.release(true, false);", r"E0382\].*`held`"),
-    ("let _ = Objects::<std::rc::Rc<u8>>::open(&ObjectConfig::default());", r"E0599\].*trait bounds were not satisfied"),
+    ("let _ = Objects::<std::rc::Rc<u8>>::open(&config_of_objects);", r"E0599\].*trait bounds were not satisfied"),
     ("let _ = image.clone();", r"E0599\].*no method named `clone`"),
 ]
 

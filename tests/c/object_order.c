@@ -218,8 +218,12 @@ static bool are_apart(int first, int second) {
 static void insertions(void) {
     for (int first = 0; first < WHYS; first++) {
         for (int second = first; second < WHYS; second++) {
+            const bool nowhere_too = !are_apart(first, NOWHERE) && !are_apart(second, NOWHERE);
             for (way way = PLAIN; !are_apart(first, second) && way < WAYS; way++) {
                 insert_so(1U << first | 1U << second, way);
+                if (nowhere_too) {
+                    insert_so(1U << first | 1U << second | 1U << NOWHERE, way);
+                }
             }
         }
     }
