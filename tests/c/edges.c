@@ -213,8 +213,9 @@ static void nulls_of_cache(ferretgold_cache *cache, ferretgold_client *client) {
     EXPECT(ferretgold_close(NULL, NULL), 16);
 }
 
-/* And in those of a client, whether it is out or idle. */
+/* And in those of a client, whether it is out or idle, and whatever else is due. */
 static void nulls(ferretgold_client *it) {
+    const ferretgold_priority none = (ferretgold_priority)3;
     ferretgold_handle handle = {0, 0, 0, 0};
     ferretgold_key key = {0, 0};
     ferretgold_stats stats;
@@ -227,13 +228,13 @@ static void nulls(ferretgold_client *it) {
     EXPECT(ferretgold_reref(NULL, handle, &handle), 16);
     EXPECT(ferretgold_reref(it, handle, NULL), 16);
     EXPECT(ferretgold_release(NULL, handle, true, true, NULL), 16);
-    EXPECT(ferretgold_insert(NULL, &KEY, &byte, 1, 1, FERRETGOLD_LOW, NULL), 16);
-    EXPECT(ferretgold_insert(it, NULL, &byte, 1, 1, FERRETGOLD_LOW, NULL), 16);
-    EXPECT(ferretgold_insert(it, &KEY, NULL, 1, 1, FERRETGOLD_LOW, NULL), 16);
-    EXPECT(ferretgold_insert_pinned(NULL, &KEY, &byte, 1, 1, FERRETGOLD_LOW, NULL, &handle), 16);
-    EXPECT(ferretgold_insert_pinned(it, NULL, &byte, 1, 1, FERRETGOLD_LOW, NULL, &handle), 16);
-    EXPECT(ferretgold_insert_pinned(it, &KEY, NULL, 1, 1, FERRETGOLD_LOW, NULL, &handle), 16);
-    EXPECT(ferretgold_insert_pinned(it, &KEY, &byte, 1, 1, FERRETGOLD_LOW, NULL, NULL), 16);
+    EXPECT(ferretgold_insert(NULL, &KEY, &byte, 1, 0, none, NULL), 16);
+    EXPECT(ferretgold_insert(it, NULL, &byte, 1, 0, none, NULL), 16);
+    EXPECT(ferretgold_insert(it, &KEY, NULL, 1, 0, none, NULL), 16);
+    EXPECT(ferretgold_insert_pinned(NULL, &KEY, &byte, 1, 0, none, NULL, &handle), 16);
+    EXPECT(ferretgold_insert_pinned(it, NULL, &byte, 1, 0, none, NULL, &handle), 16);
+    EXPECT(ferretgold_insert_pinned(it, &KEY, NULL, 1, 0, none, NULL, &handle), 16);
+    EXPECT(ferretgold_insert_pinned(it, &KEY, &byte, 1, 0, none, NULL, NULL), 16);
     EXPECT(ferretgold_erase(NULL, &KEY, NULL), 16);
     EXPECT(ferretgold_erase(it, NULL, NULL), 16);
     EXPECT(ferretgold_handle_key(NULL, handle, &key), 16);
@@ -251,10 +252,10 @@ static void nulls(ferretgold_client *it) {
     EXPECT(ferretgold_pinned_usage(it, NULL), 16);
     EXPECT(ferretgold_occupancy(NULL, &wide), 16);
     EXPECT(ferretgold_occupancy(it, NULL), 16);
-    EXPECT(ferretgold_word(NULL, 0, 0, &wide), 16);
-    EXPECT(ferretgold_word(it, 0, 0, NULL), 16);
-    EXPECT(ferretgold_displacement(NULL, 0, 0, &wide), 16);
-    EXPECT(ferretgold_displacement(it, 0, 0, NULL), 16);
+    EXPECT(ferretgold_word(NULL, 9, 9, &wide), 16);
+    EXPECT(ferretgold_word(it, 9, 9, NULL), 16);
+    EXPECT(ferretgold_displacement(NULL, 9, 9, &wide), 16);
+    EXPECT(ferretgold_displacement(it, 9, 9, NULL), 16);
     EXPECT(ferretgold_statistics(NULL, &stats), 16);
     EXPECT(ferretgold_statistics(it, NULL), 16);
     EXPECT(ferretgold_holds(NULL, handle), 0);
