@@ -48,6 +48,7 @@ typedef struct object_sink {
     ferretgold_write *write;
     void *to;
     uint64_t entries; /* so far */
+    bool could;       /* whether all of them were written whole */
 } object_sink;
 
 /* Of objects that are bytes. */
@@ -106,9 +107,11 @@ static bool write_object(object_sink *it, const ferretgold_object_handle *handle
     return true;
 }
 
-/* Writes an entry that a walk came to. */
+/* Writes an entry that a walk came to. The walk doesn't tell whether it ended by that: it may be in the last slot. */
 static bool write_visited(void *to, const ferretgold_object_handle *handle) {
-    return write_object(to, handle);
+    object_sink *it = to;
+    it->could = write_object(it, handle);
+    return it->could;
 }
 
 static ferretgold_file_status write_all(ferretgold_object_cache *cache, object_sink *it) {
@@ -116,20 +119,18 @@ static ferretgold_file_status write_all(ferretgold_object_cache *cache, object_s
     if (!file_begun(OBJECT_VERSION, 0, it->write, it->to)) {
         return FERRETGOLD_FILE_WRITE;
     }
-    const ferretgold_status status = walked(cache, write_visited, it);
-    if (status > FERRETGOLD_MISS) {
+    if (walked(cache, write_visited, it) > FERRETGOLD_MISS) {
         return FERRETGOLD_FILE_BUSY;
     }
-    return status == FERRETGOLD_MISS && write_head(it, &no_key, 0, 0, it->entries)
-               ? FERRETGOLD_FILE_OK
-               : FERRETGOLD_FILE_WRITE;
+    return it->could && write_head(it, &no_key, 0, 0, it->entries) ? FERRETGOLD_FILE_OK
+                                                                   : FERRETGOLD_FILE_WRITE;
 }
 
 ferretgold_file_status ferretgold_object_save(ferretgold_object_cache *cache,
                                               ferretgold_object_size *size,
                                               ferretgold_object_copy *copy, void *context,
                                               ferretgold_write *write, void *to, uint64_t *saved) {
-    object_sink it = {size, copy, context, write, to, 0};
+    object_sink it = {size, copy, context, write, to, 0, true};
     if (cache == NULL || write == NULL || (size == NULL) != (copy == NULL)) {
         return FERRETGOLD_FILE_NULL;
     }

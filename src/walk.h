@@ -9,8 +9,8 @@
 /* How often a slot is tried whose entry can't be held. */
 enum { TRIES = 64 };
 
-/* Visits all that a walk finds: OK if `visit` ended it, MISS at its end, or why a slot was refused each
- * time. */
+/* Visits all that a walk finds, unless `visit` ends it: MISS at its end, also where that was in the last slot,
+ * else OK; or why a slot was refused each time. */
 static inline ferretgold_status walked(ferretgold_object_cache *cache,
                                        ferretgold_object_visit *visit, void *context) {
     ferretgold_object_place place = {0, 0};

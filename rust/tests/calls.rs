@@ -242,7 +242,7 @@ fn what_is_left_is_read() {
     let cache = Cache::open(&config).unwrap();
     let client = cache.client().unwrap();
     assert_eq!(
-        client.insert(KEY, b"left", 7, Priority::High),
+        client.insert(KEY, b"left", 0x1234_5678, Priority::High),
         Ok(Inserted::Placed)
     );
     let words: Vec<u64> = (0..16)
@@ -254,7 +254,7 @@ fn what_is_left_is_read() {
     let (shard, slot, entry) = all[0];
     assert_eq!(
         (all.len(), entry.key, entry.length, entry.charge),
-        (1, KEY, 4, 7)
+        (1, KEY, 4, 0x1234_5678)
     );
     assert_eq!((entry.uses, entry.visible, entry.hit), (3, true, false));
     let mut bytes = [9; 5];
@@ -271,7 +271,10 @@ fn what_is_left_is_read() {
         assert_eq!(left.displacement(k / 8, k % 8), Ok(0));
     }
     assert_eq!((left.hand(0), left.hand(1)), (Ok(0), Ok(0)));
-    assert_eq!((left.totals().usage, left.totals().slot_count), (7, 1));
+    assert_eq!(
+        (left.totals().usage, left.totals().slot_count),
+        (0x1234_5678, 1)
+    );
     assert_eq!(left.config(), config);
     for (shard, slot) in [(0, 8), (2, 0)] {
         assert_eq!(left.entry(shard, slot), Err(Refused::OUT_OF_RANGE));
@@ -289,7 +292,7 @@ fn what_is_left_is_read() {
 fn a_cache_begins_with_entries() {
     let image = || {
         let mut image = Image::new().unwrap();
-        assert_eq!(image.add(KEY, b"first", 7, 2), Ok(()));
+        assert_eq!(image.add(KEY, b"first", 0x1234_5678, 0x1a2b_3c4d), Ok(()));
         assert_eq!(image.add(OTHER, b"", 0, 1), Ok(())); // no cache has an entry of charge 0
         assert_eq!(image.add(OTHER, &[], 3, 1), Ok(()));
         image
@@ -299,13 +302,16 @@ fn a_cache_begins_with_entries() {
     let (client, mut block) = (warm.client().unwrap(), [9; 6]);
     assert_eq!(client.get(KEY, &mut block, true), Got::Value(5));
     assert_eq!(&block, b"first\x09");
-    assert_eq!((client.usage(), client.occupancy()), (10, 2));
+    assert_eq!((client.usage(), client.occupancy()), (0x1234_567b, 2));
     drop(client);
     let left = warm.close_keeping().map_err(|(why, _)| why).unwrap();
     let mut all: Vec<_> = left.entries().map(|(_, _, it)| it).collect();
     all.sort_by_key(|it| it.charge);
     assert_eq!((all[0].key, all[0].length, all[0].uses), (OTHER, 0, 1));
-    assert_eq!((all[1].key, all[1].charge, all[1].uses), (KEY, 7, 3));
+    assert_eq!(
+        (all[1].key, all[1].charge, all[1].uses),
+        (KEY, 0x1234_5678, 0x1a2b_3c4d)
+    );
     let config = Config {
         slots: 33,
         ..small()

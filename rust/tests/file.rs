@@ -326,8 +326,14 @@ fn objects_are_dumped_while_they_are_there_and_come_back() {
         let found = to.get(&key).map(|it| (it.to_vec(), it.charge()));
         assert_eq!(found, (number != 3).then(|| (value_of(number), 7)));
     }
-    let warms = || to.warm(&path, |_| -> Option<Vec<u8>> { panic!("made") });
-    assert_eq!(panicked(warms), Some("made"));
+    let mut made = 0;
+    let warms = || {
+        to.warm(&path, |_| -> Option<Vec<u8>> {
+            made += 1;
+            panic!("made")
+        })
+    };
+    assert_eq!((panicked(warms), made), (Some("made"), 1));
     fs::remove_file(&path).unwrap();
     assert!(matches!(
         to.warm(&path, |it| Some(it.to_vec())),
@@ -337,4 +343,52 @@ fn objects_are_dumped_while_they_are_there_and_come_back() {
         from.dump(&path.join("none"), |it| it),
         Err(FileError::Write(_))
     ));
+}
+
+#[test]
+fn who_holds_all_handles_can_not_dump() {
+    let path = env::temp_dir().join(format!("ferretgold-{}.busy", process::id()));
+    let config = ObjectConfig {
+        clients: 1,
+        handles: 1,
+        ..ObjectConfig::default()
+    };
+    let cache = Objects::<Vec<u8>>::open(&config).unwrap();
+    cache.insert(&[1; 16], vec![1], 1).unwrap();
+    let held = cache.get(&[1; 16]);
+    let busy = cache.dump(&path, |it| it).unwrap_err();
+    assert!(matches!(busy, FileError::Busy) && held.is_some());
+    assert_eq!(busy.to_string(), "no client or no handle was to be had");
+    assert!(!path.exists());
+}
+
+/// What comes back is of low priority: it outlives an entry of the lowest, and goes before one of the highest,
+/// wherever they lie.
+#[test]
+fn objects_come_back_with_two_uses() {
+    let path = env::temp_dir().join(format!("ferretgold-{}.low", process::id()));
+    let open = |seed| {
+        let config = ObjectConfig {
+            slots: 16,
+            shards: 1,
+            strict: true,
+            capacity: 20,
+            seed,
+            ..ObjectConfig::default()
+        };
+        Objects::<Vec<u8>>::open(&config).unwrap()
+    };
+    let from = open(1);
+    from.insert(&[1; 16], vec![1], 10).unwrap();
+    assert_eq!(from.dump(&path, |it| it).unwrap(), 1);
+    for (seed, rival) in (1..13).flat_map(|it| [(it, Priority::High), (it, Priority::Bottom)]) {
+        let to = open(seed);
+        assert_eq!(to.warm(&path, |it| Some(it.to_vec())).unwrap().left, 1);
+        for (key, priority) in [([2; 16], rival), ([3; 16], Priority::High)] {
+            let came = to.insert_with_priority(&key, vec![], 10, priority);
+            assert_eq!(came.unwrap(), Inserted::Placed);
+        }
+        assert_eq!(to.get(&[1; 16]).is_some(), rival == Priority::Bottom);
+    }
+    fs::remove_file(&path).unwrap();
 }

@@ -4,10 +4,10 @@
 use ferretgold::{HashedObjects, Inserted, LoadError, ObjectConfig, Objects, Pinned, Refused};
 use std::collections::hash_map::DefaultHasher;
 use std::convert::Infallible;
-use std::hash::{BuildHasherDefault, Hasher};
+use std::hash::{BuildHasher, BuildHasherDefault, Hasher};
 use std::panic::{catch_unwind, AssertUnwindSafe};
 use std::sync::atomic::{AtomicUsize, Ordering::SeqCst};
-use std::sync::{Arc, Barrier};
+use std::sync::{Arc, Barrier, Mutex};
 use std::thread;
 
 const KEY: [u8; 16] = *b"0123456789abcdef";
@@ -220,4 +220,37 @@ fn loads_of_equal_hashes_are_told_apart() {
     let outer = outer.unwrap();
     assert_eq!((outer.key().as_str(), *outer), ("b", 2));
     assert_eq!((*load("c", 4), *load("b", 5)), (3, 5)); // the table has one of them
+}
+
+/// Notes what each hash was made of.
+#[derive(Clone, Default)]
+struct Noting(Arc<Mutex<Vec<Vec<u8>>>>, Vec<u8>);
+
+impl BuildHasher for Noting {
+    type Hasher = Noting;
+
+    fn build_hasher(&self) -> Noting {
+        self.clone()
+    }
+}
+
+impl Hasher for Noting {
+    fn write(&mut self, bytes: &[u8]) {
+        self.1.extend(bytes);
+    }
+
+    fn finish(&self) -> u64 {
+        self.0.lock().unwrap().push(self.1.clone());
+        0
+    }
+}
+
+/// A key is found by two hashes of it.
+#[test]
+fn keys_are_hashed_twice() {
+    let noting = Noting::default();
+    let all = ObjectConfig::default();
+    let cache = HashedObjects::<u8, u8, _>::open_with(&all, noting.clone()).unwrap();
+    assert!(cache.get(&7).is_none());
+    assert_eq!(*noting.0.lock().unwrap(), [[0, 7], [1, 7]]);
 }

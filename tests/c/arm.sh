@@ -37,7 +37,7 @@ prints() {
 
 # Plays traces of calls: plays LIBRARY WORD..
 plays() {
-    builds tests/c/{play,edges,counted,seeds,budgets,closed,image,heap}.c "$out/$1" "${@:2}" $wrap \
+    builds tests/c/{play,edges,order,counted,seeds,budgets,closed,image,heap}.c "$out/$1" "${@:2}" $wrap \
         && runs tests/program/calls tests/c/calls
 }
 
@@ -47,7 +47,7 @@ lends() {
 
 # Makes the calls of ferretgold_object.h.
 objects() {
-    builds tests/c/{object,object_bytes,object_opening,object_seeds,object_threads,object_walk,heap}.c $out/libferretgold.a $wrap \
+    builds tests/c/{object,object_bytes,object_opening,object_order,object_seeds,object_threads,object_uses,object_walk,heap}.c $out/libferretgold.a $wrap \
         && runs 100000
 }
 

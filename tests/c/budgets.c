@@ -48,6 +48,7 @@ static void sizes(void) {
         EXPECT(it.clients, all[k].threads);
         EXPECT(it.capacity, all[k].entries * all[k].room * 8);
         EXPECT(it.seed == 0 && it.serials == FERRETGOLD_MOST_SERIALS, true);
+        EXPECT(it.strict || it.marks || it.size != sizeof it, false);
         EXPECT(fit.bytes, ferretgold_memory(&it));
         EXPECT(fit.bytes <= all[k].bytes, true);
         EXPECT(fit.entries, all[k].entries);

@@ -13,6 +13,7 @@ enum { MOST_FILE = 40 + 4096 };
 
 enum { PLACES = 6, SLOTS = 8, ROOM = 2, MOST_USES = 553651204, MOST_ROWS = 9 };
 enum { ROUNDS = 200, DRAWN = 300, KEYS = 150, WIDE = 256 }; /* of drawn files */
+enum { AGAIN = 5000 };
 
 /* ---- Files ----------------------------------------------------------------------------------- */
 
@@ -29,6 +30,7 @@ typedef struct source {
     const entry *listed; /* NULL: they have keys of their own, and those that come in are the first or the last */
     uint32_t length;     /* of their values */
     bool are_equal;      /* in uses: the first come in; else each has more than the one before */
+    uint64_t again;      /* from which on keys come again, those of AGAIN entries before; 0: they don't */
     uint64_t given;      /* parts so far: the begin and entries */
     image part;          /* the one that is read */
     int ends;            /* calls that got fewer bytes than they asked for */
@@ -36,7 +38,9 @@ typedef struct source {
 
 static entry entry_of(const source *from, uint64_t number) {
     const bool in = from->are_equal ? number < PLACES : number + PLACES >= from->entries;
-    const entry more = {number, from->are_equal ? 1 : (uint32_t)number, 1, from->length, in};
+    const bool is_again = from->again != 0 && number >= from->again;
+    const uint64_t key = is_again ? number - AGAIN : number;
+    const entry more = {key, from->are_equal ? 1 : (uint32_t)number, 1, from->length, in};
     return from->listed != NULL ? from->listed[number] : more;
 }
 
@@ -381,6 +385,35 @@ static void many(uint64_t entries) {
     }
 }
 
+/* More entries than two bytes count, of more and more uses, for shards of the most slots: those from `first` on
+ * come in, of one key the last, each with all that it had. */
+static void largest(uint32_t shards, source from, uint64_t first, uint64_t left) {
+    enum { MOST_SLOTS = 65536, MOST = 70000 };
+    const ferretgold_config config = config_of(shards, MOST_SLOTS, 1);
+    ferretgold_loaded loaded;
+    ferretgold_entry is;
+    static bool seen[MOST];
+    uint64_t whole = 0;
+    ferretgold_closed *closed = loaded_of(&from, &config, &loaded);
+    memset(seen, 0, sizeof seen);
+    for (uint32_t place = 0; place < shards * MOST_SLOTS; place++) {
+        const uint32_t shard = place / MOST_SLOTS, slot = place % MOST_SLOTS;
+        if (ferretgold_closed_entry(closed, shard, slot, &is) == FERRETGOLD_OK) {
+            const uint64_t key = ~is.key.w1;
+            const bool is_again = from.again != 0 && key + AGAIN >= from.again && key + AGAIN < from.entries;
+            const uint64_t number = is_again ? key + AGAIN : key;
+            const entry it = entry_of(&from, number);
+            EXPECT(number >= first && number < from.entries && !seen[number], true);
+            EXPECT(is_entry(closed, shard, slot, &is, number, &it), true);
+            seen[number] = true;
+            whole++;
+        }
+    }
+    EXPECT(whole, left);
+    EXPECT(loaded.left, left);
+    ferretgold_closed_free(closed);
+}
+
 int main(int count, char **words) {
     heap_left = SIZE_MAX;
     if (count == 2 && strcmp(words[1], "rows") == 0) {
@@ -388,6 +421,9 @@ int main(int count, char **words) {
         drawn();
         each_size();
         many(70000);
+        largest(1, (source){.entries = 60000, .length = 8}, 60000 - 55050, 55050);
+        largest(1, (source){.entries = 65000, .length = 8, .again = 60000}, 60000 - 55050, 55050);
+        largest(2, (source){.entries = 70000, .length = 8}, 0, 70000);
     } else if (count == 3 && strcmp(words[1], "many") == 0) {
         many(strtoull(words[2], NULL, 10));
     } else {

@@ -135,15 +135,15 @@ static void refusals(ferretgold_closed *it) {
     EXPECT(ferretgold_closed_totals(NULL, &totals), 16);
     EXPECT(ferretgold_closed_totals(it, NULL), 16);
     EXPECT(ferretgold_closed_entry(NULL, 0, 0, &entry), 16);
-    EXPECT(ferretgold_closed_entry(it, 0, 0, NULL), 16);
+    EXPECT(ferretgold_closed_entry(it, SHARDS, SLOTS, NULL), 16);
     EXPECT(ferretgold_closed_value(NULL, 0, 0, &byte, 1, &length), 16);
-    EXPECT(ferretgold_closed_value(it, 0, 0, NULL, 1, &length), 16);
+    EXPECT(ferretgold_closed_value(it, SHARDS, SLOTS, NULL, 1, &length), 16);
     EXPECT(ferretgold_closed_word(NULL, 0, 0, &wide), 16);
-    EXPECT(ferretgold_closed_word(it, 0, 0, NULL), 16);
+    EXPECT(ferretgold_closed_word(it, SHARDS, SLOTS, NULL), 16);
     EXPECT(ferretgold_closed_displacement(NULL, 0, 0, &wide), 16);
-    EXPECT(ferretgold_closed_displacement(it, 0, 0, NULL), 16);
+    EXPECT(ferretgold_closed_displacement(it, SHARDS, SLOTS, NULL), 16);
     EXPECT(ferretgold_closed_hand(NULL, 0, &wide), 16);
-    EXPECT(ferretgold_closed_hand(it, 0, NULL), 16);
+    EXPECT(ferretgold_closed_hand(it, SHARDS, NULL), 16);
     EXPECT(config.slots == 5 && totals.usage == 5 && entry.uses == 5 && wide == 5, true);
     EXPECT(length == 5 && byte == 5, true);
     ferretgold_closed_free(NULL);
@@ -238,8 +238,42 @@ static void hands(void) {
     ferretgold_closed_free(closed);
 }
 
+/* Two handles on an entry of the lowest priority are given back, as uses or not, or with their client: which
+ * uses the entry has then. Nothing is counted meanwhile. */
+static void given_back(bool releases, bool useful, uint32_t uses) {
+    static const ferretgold_key key = {1, 2};
+    ferretgold_cache *cache = NULL;
+    ferretgold_client *client = NULL;
+    ferretgold_closed *closed = NULL;
+    ferretgold_handle handles[2];
+    ferretgold_counts before, after;
+    ferretgold_entry entry = {{5, 5}, 5, 5, 77, false, false};
+    EXPECT(ferretgold_open(&SMALL, &cache), 0);
+    EXPECT(ferretgold_client_open(cache, &client), 0);
+    EXPECT(ferretgold_insert(client, &key, "", 0, 1, FERRETGOLD_BOTTOM, NULL), 0);
+    for (int k = 0; k < 2; k++) {
+        EXPECT(ferretgold_lookup(client, &key, &handles[k]), 0);
+    }
+    EXPECT(ferretgold_cache_counts(cache, &before), 0);
+    for (int k = 0; releases && k < 2; k++) {
+        EXPECT(ferretgold_release(client, handles[k], useful, false, NULL), 0);
+    }
+    EXPECT(ferretgold_client_close_releasing(cache, client), 0);
+    EXPECT(ferretgold_cache_counts(cache, &after), 0);
+    EXPECT(memcmp(&before, &after, sizeof before), 0);
+    EXPECT(ferretgold_close_keeping(cache, &closed), 0);
+    for (uint32_t k = 0; k < SHARDS * SLOTS; k++) {
+        (void)ferretgold_closed_entry(closed, k / SLOTS, k % SLOTS, &entry);
+    }
+    EXPECT(entry.uses, uses);
+    ferretgold_closed_free(closed);
+}
+
 void closed_caches(void) {
     where = "closed";
     entries();
     hands();
+    given_back(true, true, 3);
+    given_back(true, false, 1);
+    given_back(false, false, 1);
 }

@@ -15,7 +15,8 @@ using ferretgold::cache;
 using ferretgold::closed;
 using ferretgold::image;
 
-constexpr ferretgold_key KEY = {1, 2};
+constexpr ferretgold_key KEY = {UINT64_C(0xfedcba9876543210), 2};
+constexpr std::uint32_t CHARGE = 0x12345678, USES = 0x1a2b3c4d;
 int faults = 0;
 
 void expect(int line, const char *what, bool is) {
@@ -51,10 +52,10 @@ void refused(const closed &it, std::uint32_t shard, std::uint32_t slot, int stat
 }
 
 // One entry of four bytes in a cache of eight slots, displaced by none: the entry's slot says it all.
-void reads(const closed &it, std::uint64_t seed) {
+void reads(const closed &it, std::uint64_t seed, std::uint32_t uses = 3) {
     ferretgold_status why = FERRETGOLD_NULL;
     int found = 0;
-    EXPECT(it && it.config().seed == seed && it.totals().usage == 5);
+    EXPECT(it && it.config().seed == seed && it.totals().usage == CHARGE);
     EXPECT(it.totals(why).slot_count == 1 && why == FERRETGOLD_OK);
     EXPECT(it.hand(0, why) == 0 && why == FERRETGOLD_OK && it.hand(0) == 0);
     for (std::uint32_t slot = 0; slot < 8; slot++) {
@@ -67,8 +68,8 @@ void reads(const closed &it, std::uint64_t seed) {
         EXPECT(it.displacement(0, slot) == 0 && it.displacement(0, slot, why) == 0 && why == FERRETGOLD_OK);
         if (entry) {
             found++;
-            EXPECT(entry->key.w0 == KEY.w0 && entry->key.w1 == KEY.w1 && entry->charge == 5);
-            EXPECT(entry->length == 4 && entry->uses == 3 && entry->visible && !entry->hit);
+            EXPECT(entry->key.w0 == KEY.w0 && entry->key.w1 == KEY.w1 && entry->charge == CHARGE);
+            EXPECT(entry->length == 4 && entry->uses == uses && entry->visible && !entry->hit);
             EXPECT(it.value(0, slot, bytes, 3, &length) == FERRETGOLD_TOO_SHORT && length == 4);
             EXPECT(std::strcmp(bytes, "xxxx") == 0);
             EXPECT(it.value(0, slot, bytes, 4, &length) == FERRETGOLD_OK);
@@ -85,7 +86,7 @@ void reads(const closed &it, std::uint64_t seed) {
 
 // Adds the entry that `reads` wants, and one that no cache has.
 void fill(image &it) {
-    EXPECT(it.add(KEY, "kept", 4, 5, 3) == FERRETGOLD_OK);
+    EXPECT(it.add(KEY, "kept", 4, CHARGE, USES) == FERRETGOLD_OK);
     EXPECT(it.add({3, 4}, nullptr, 0, 0, 1) == FERRETGOLD_OK);
 }
 
@@ -106,10 +107,10 @@ void begins(const ferretgold_config &config) {
     fill(other);
     image moved(std::move(it));
     it = std::move(moved);
-    reads(it.reopen(config, &left_out, why).close_keeping(), config.seed);
+    reads(it.reopen(config, &left_out, why).close_keeping(), config.seed, USES);
     EXPECT(why == FERRETGOLD_OK && left_out == 1);
     EXPECT(it.reopen(config, &left_out).close().slot_count == 0 && left_out == 0);
-    reads(other.reopen(config, &left_out).close_keeping(), config.seed);
+    reads(other.reopen(config, &left_out).close_keeping(), config.seed, USES);
     EXPECT(left_out == 1);
 }
 
@@ -153,7 +154,7 @@ int closed_caches() {
     cache it(config), none;
     {
         ferretgold::client client = it.open_client();
-        EXPECT(client.insert(KEY, "kept", 4, 5, FERRETGOLD_HIGH) == 0);
+        EXPECT(client.insert(KEY, "kept", 4, CHARGE, FERRETGOLD_HIGH) == 0);
         EXPECT(!it.close_keeping(why) && why == FERRETGOLD_CLIENTS_OUT && it.get() != nullptr);
         EXPECT(it.counts().placed == 1 && none.counts().placed == 0);
         EXPECT(it.counts(client.number()).placed == 1);

@@ -180,13 +180,16 @@ static void no_copy(void) {
     EXPECT(ferretgold_close(cache, NULL), 0);
 }
 
-/* The configuration to begin with is one that a cache can have. */
+/* The configuration to begin with, field by field, is one that a cache can have. */
 static void initialiser(void) {
     const ferretgold_config config = FERRETGOLD_CONFIG;
     ferretgold_cache *cache = NULL;
     EXPECT(ferretgold_open(&config, &cache), 0);
     EXPECT(ferretgold_close(cache, NULL), 0);
-    EXPECT(config.seed, 0);
+    EXPECT(config.slots == 2048 && config.room == 512 && config.clients == 16, true);
+    EXPECT(config.handles == 16 && config.shards == 2 && config.size == 48, true);
+    EXPECT(config.strict || config.marks, false);
+    EXPECT(config.capacity == 11743232 && config.serials == UINT64_C(1) << 54 && config.seed == 0, true);
     EXPECT(ferretgold_config_advice(&config), 0);
     EXPECT(config.capacity, config.slots * config.shards * UINT64_C(7) / 10 * config.room * 8);
 }
@@ -210,8 +213,9 @@ static void nulls_of_cache(ferretgold_cache *cache, ferretgold_client *client) {
     EXPECT(ferretgold_close(NULL, NULL), 16);
 }
 
-/* And in those of a client. */
+/* And in those of a client, whether it is out or idle, and whatever else is due. */
 static void nulls(ferretgold_client *it) {
+    const ferretgold_priority none = (ferretgold_priority)3;
     ferretgold_handle handle = {0, 0, 0, 0};
     ferretgold_key key = {0, 0};
     ferretgold_stats stats;
@@ -224,13 +228,13 @@ static void nulls(ferretgold_client *it) {
     EXPECT(ferretgold_reref(NULL, handle, &handle), 16);
     EXPECT(ferretgold_reref(it, handle, NULL), 16);
     EXPECT(ferretgold_release(NULL, handle, true, true, NULL), 16);
-    EXPECT(ferretgold_insert(NULL, &KEY, &byte, 1, 1, FERRETGOLD_LOW, NULL), 16);
-    EXPECT(ferretgold_insert(it, NULL, &byte, 1, 1, FERRETGOLD_LOW, NULL), 16);
-    EXPECT(ferretgold_insert(it, &KEY, NULL, 1, 1, FERRETGOLD_LOW, NULL), 16);
-    EXPECT(ferretgold_insert_pinned(NULL, &KEY, &byte, 1, 1, FERRETGOLD_LOW, NULL, &handle), 16);
-    EXPECT(ferretgold_insert_pinned(it, NULL, &byte, 1, 1, FERRETGOLD_LOW, NULL, &handle), 16);
-    EXPECT(ferretgold_insert_pinned(it, &KEY, NULL, 1, 1, FERRETGOLD_LOW, NULL, &handle), 16);
-    EXPECT(ferretgold_insert_pinned(it, &KEY, &byte, 1, 1, FERRETGOLD_LOW, NULL, NULL), 16);
+    EXPECT(ferretgold_insert(NULL, &KEY, &byte, 1, 0, none, NULL), 16);
+    EXPECT(ferretgold_insert(it, NULL, &byte, 1, 0, none, NULL), 16);
+    EXPECT(ferretgold_insert(it, &KEY, NULL, 1, 0, none, NULL), 16);
+    EXPECT(ferretgold_insert_pinned(NULL, &KEY, &byte, 1, 0, none, NULL, &handle), 16);
+    EXPECT(ferretgold_insert_pinned(it, NULL, &byte, 1, 0, none, NULL, &handle), 16);
+    EXPECT(ferretgold_insert_pinned(it, &KEY, NULL, 1, 0, none, NULL, &handle), 16);
+    EXPECT(ferretgold_insert_pinned(it, &KEY, &byte, 1, 0, none, NULL, NULL), 16);
     EXPECT(ferretgold_erase(NULL, &KEY, NULL), 16);
     EXPECT(ferretgold_erase(it, NULL, NULL), 16);
     EXPECT(ferretgold_handle_key(NULL, handle, &key), 16);
@@ -248,10 +252,10 @@ static void nulls(ferretgold_client *it) {
     EXPECT(ferretgold_pinned_usage(it, NULL), 16);
     EXPECT(ferretgold_occupancy(NULL, &wide), 16);
     EXPECT(ferretgold_occupancy(it, NULL), 16);
-    EXPECT(ferretgold_word(NULL, 0, 0, &wide), 16);
-    EXPECT(ferretgold_word(it, 0, 0, NULL), 16);
-    EXPECT(ferretgold_displacement(NULL, 0, 0, &wide), 16);
-    EXPECT(ferretgold_displacement(it, 0, 0, NULL), 16);
+    EXPECT(ferretgold_word(NULL, 9, 9, &wide), 16);
+    EXPECT(ferretgold_word(it, 9, 9, NULL), 16);
+    EXPECT(ferretgold_displacement(NULL, 9, 9, &wide), 16);
+    EXPECT(ferretgold_displacement(it, 9, 9, NULL), 16);
     EXPECT(ferretgold_statistics(NULL, &stats), 16);
     EXPECT(ferretgold_statistics(it, NULL), 16);
     EXPECT(ferretgold_holds(NULL, handle), 0);
@@ -338,7 +342,7 @@ static void refusals(ferretgold_client *it, ferretgold_client *other) {
     no_handle(it, held);
 }
 
-/* A client that is idle: each call refuses it, and leaves its outputs. */
+/* A client that is idle: each call refuses it, whatever else is due, and leaves its outputs. */
 static void idle(ferretgold_cache *cache, ferretgold_client *it, ferretgold_handle handle) {
     ferretgold_handle given = {5, 5, 5, 5};
     ferretgold_inserted inserted = (ferretgold_inserted)7;
@@ -352,8 +356,9 @@ static void idle(ferretgold_cache *cache, ferretgold_client *it, ferretgold_hand
     EXPECT(ferretgold_lookup(it, &KEY, &given), 36);
     EXPECT(ferretgold_reref(it, handle, &given), 36);
     EXPECT(ferretgold_release(it, handle, true, true, &freed), 36);
-    EXPECT(ferretgold_insert(it, &KEY, "", 0, 1, FERRETGOLD_LOW, &inserted), 36);
-    EXPECT(ferretgold_insert_pinned(it, &KEY, "", 0, 1, FERRETGOLD_LOW, &inserted, &given), 36);
+    EXPECT(ferretgold_insert(it, &KEY, "", 0, 0, (ferretgold_priority)3, &inserted), 36);
+    EXPECT(ferretgold_insert_pinned(it, &KEY, "", 0, 0, (ferretgold_priority)3, &inserted, &given),
+           36);
     EXPECT(ferretgold_erase(it, &KEY, &hidden), 36);
     EXPECT(ferretgold_handle_key(it, handle, &key), 36);
     EXPECT(ferretgold_value_len(it, handle, &length), 36);
@@ -362,8 +367,8 @@ static void idle(ferretgold_cache *cache, ferretgold_client *it, ferretgold_hand
     EXPECT(ferretgold_usage(it, &wide), 36);
     EXPECT(ferretgold_pinned_usage(it, &wide), 36);
     EXPECT(ferretgold_occupancy(it, &wide), 36);
-    EXPECT(ferretgold_word(it, 0, 0, &wide), 36);
-    EXPECT(ferretgold_displacement(it, 0, 0, &wide), 36);
+    EXPECT(ferretgold_word(it, 9, 9, &wide), 36);
+    EXPECT(ferretgold_displacement(it, 9, 9, &wide), 36);
     EXPECT(ferretgold_statistics(it, &stats), 36);
     EXPECT(ferretgold_client_close(cache, it), 36);
     EXPECT(ferretgold_client_close_releasing(cache, it), 36);
@@ -508,6 +513,7 @@ void edges(void) {
     two_caches(cache, client[0]);
     EXPECT(ferretgold_client_close(cache, client[0]), 0);
     idle(cache, client[0], (ferretgold_handle){0, 0, 0, 0});
+    nulls(client[0]);
     taken_again(cache);
     EXPECT(ferretgold_client_open(cache, &client[0]), 0);
     EXPECT(ferretgold_client_open(cache, &client[1]), 0);

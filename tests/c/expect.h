@@ -23,6 +23,9 @@ void images(void);
 /* What no trace shows. */
 void edges(void);
 
+/* Of two refusals the first. */
+void orders(void);
+
 /* What each call counts as. */
 void counted(void);
 

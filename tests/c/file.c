@@ -81,7 +81,7 @@ static ferretgold_file_status save(image *to, size_t calls) {
     EXPECT(ferretgold_erase(client, &fourth, NULL), FERRETGOLD_OK);
     EXPECT(ferretgold_client_close(cache, client), FERRETGOLD_OK);
     EXPECT(ferretgold_close_keeping(cache, &closed), FERRETGOLD_OK);
-    to->length = 0;
+    empty_image(to);
     to->calls_left = calls;
     soil_stack();
     const ferretgold_file_status status = ferretgold_save(closed, write_image, to);
@@ -92,7 +92,7 @@ static ferretgold_file_status save(image *to, size_t calls) {
 
 static ferretgold_file_status load(image *from, const ferretgold_config *config, bool keep_front,
                                    ferretgold_cache **cache, ferretgold_loaded *loaded) {
-    from->at = 0;
+    begin_image(from);
     return ferretgold_load(config, read_image, from, keep_front, cache, loaded);
 }
 

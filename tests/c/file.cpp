@@ -2,6 +2,7 @@
 // without exceptions; what fails, what throws, and that nothing is left of it.
 #include "ferretgold_file.hpp"
 #include "heap.h"
+#include "outlives.h"
 
 #include <cstdint>
 #include <cstdio>
@@ -12,6 +13,7 @@
 #include <sstream>
 #include <string>
 #include <utility>
+#include <vector>
 
 namespace {
 
@@ -373,6 +375,49 @@ std::string text_of(std::uint64_t number) {
     return it;
 }
 
+race_end race(void *path, const ferretgold_object_config *config, ferretgold_priority rival) {
+    ferretgold_status why{};
+    ferretgold_file_status status{};
+    ferretgold::object_cache<std::string> cache(*config, why);
+    const auto make = [](std::string_view it) { return std::make_unique<std::string>(it); };
+    ferretgold::warm(cache, static_cast<const char *>(path), make, nullptr, status);
+    EXPECT(status == FERRETGOLD_FILE_OK);
+    return raced(cache.get(), rival);
+}
+
+// What comes back is of low priority.
+void comes_back_low(std::string path) {
+    ferretgold::object_cache<std::string> from = texts();
+    ferretgold_file_status why{};
+    const auto bytes = [](const std::string &it) { return std::string_view(it); };
+    EXPECT(from.insert(racer_key(RACER), std::make_unique<std::string>("it"), 10) == FERRETGOLD_OK);
+    ferretgold::dump(from, path.c_str(), bytes, why);
+    EXPECT(uses_by(race, path.data()) == 2);
+    std::remove(path.c_str());
+}
+
+// What finds no room, as all is held, isn't counted among what came in.
+void finds_no_room(const std::string &path) {
+    ferretgold::object_cache<std::string> from = texts();
+    ferretgold_status why{};
+    ferretgold_file_status status{};
+    ferretgold_loaded loaded{};
+    ferretgold_object_config config = from.config();
+    config.slots = 8;
+    config.handles = 6;
+    ferretgold::object_cache<std::string> to(config, why);
+    std::vector<ferretgold::pinned<std::string>> held;
+    for (std::uint64_t number = 0; number < 6; number++) {
+        held.push_back(to.insert_pinned({number, 3}, std::make_unique<std::string>(), 7, FERRETGOLD_LOW, nullptr, why));
+    }
+    EXPECT(from.insert({1, 2}, std::make_unique<std::string>("one"), 7) == FERRETGOLD_OK);
+    ferretgold::dump(from, path.c_str(), [](const std::string &it) { return std::string_view(it); }, status);
+    const auto make = [](std::string_view it) { return std::make_unique<std::string>(it); };
+    ferretgold::warm(to, path.c_str(), make, &loaded, status);
+    EXPECT(status == FERRETGOLD_FILE_OK && loaded.entries == 1 && loaded.left == 0 && loaded.lost == 1);
+    std::remove(path.c_str());
+}
+
 // Dumps to a path and starts warm from there.
 void dumps(const std::string &path) {
     ferretgold::object_cache<std::string> from = texts(), to = texts();
@@ -404,22 +449,22 @@ void dumps(const std::string &path) {
 void thrown_from_dumps(const std::string &path) {
     ferretgold::object_cache<std::string> from = texts(), to = texts();
     const auto bytes = [](const std::string &it) { return std::string_view(it); };
-    int asked = 0, seen = 0;
+    int asked = 0, made = 0, seen = 0;
     const auto throws = [&](const std::string &it) -> std::string_view {
         return ++asked == 2 ? throw std::runtime_error("bytes") : std::string_view(it);
     };
     from.insert({1, 2}, std::make_unique<std::string>("one"), 7);
-    ferretgold::dump(from, path.c_str(), bytes);
     from.insert({2, 2}, std::make_unique<std::string>("two"), 7);
+    ferretgold::dump(from, path.c_str(), bytes);
     try {
         ferretgold::dump(from, path.c_str(), throws);
     } catch (const std::runtime_error &why) {
         seen += std::strcmp(why.what(), "bytes") == 0;
     }
     try {
-        ferretgold::warm(to, path.c_str(), [](std::string_view) -> std::unique_ptr<std::string> { throw 5; });
+        ferretgold::warm(to, path.c_str(), [&](std::string_view) -> std::unique_ptr<std::string> { throw ++made; });
     } catch (int why) {
-        seen += why == 5;
+        seen += why == 1 && made == 1;
     }
     try {
         ferretgold::dump(from, (path + ".none/it").c_str(), bytes);
@@ -430,7 +475,7 @@ void thrown_from_dumps(const std::string &path) {
     ferretgold_loaded loaded{};
     const auto make = [](std::string_view it) { return std::make_unique<std::string>(it); };
     ferretgold::warm(to, path.c_str(), make, &loaded);
-    EXPECT(loaded.entries == 1);
+    EXPECT(loaded.entries == 2);
     std::remove(path.c_str());
 }
 #else
@@ -448,6 +493,8 @@ int main(int count, char **words) {
     by_streams(words[1]);
     exceptions();
     dumps(words[1] + std::string(".dump"));
+    comes_back_low(words[1] + std::string(".dump"));
+    finds_no_room(words[1] + std::string(".dump"));
     thrown_from_dumps(words[1] + std::string(".dump"));
     EXPECT(heap_blocks == 0);
     return faults == 0 ? 0 : 1;

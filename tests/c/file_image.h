@@ -28,12 +28,25 @@ typedef struct image {
     size_t length;
     size_t at;
     size_t calls_left; /* how many calls are met before one fails */
+    bool is_over;      /* one failed, or came to the end: no other is heard then */
 } image;
+
+/* Has a file begin at its front; and as one with no byte. */
+static inline void begin_image(image *it) {
+    it->at = 0;
+    it->is_over = false;
+}
+
+static inline void empty_image(image *it) {
+    it->length = 0;
+    begin_image(it);
+}
 
 static inline bool write_image(void *context, const void *bytes, size_t count) {
     image *to = context;
-    EXPECT(count > 0, true);
-    if (to->calls_left-- == 0 || count > MOST_FILE - to->length) {
+    EXPECT(count > 0 && !to->is_over, true);
+    to->is_over = to->calls_left-- == 0 || count > MOST_FILE - to->length;
+    if (to->is_over) {
         return false;
     }
     memcpy(to->bytes + to->length, bytes, count);
@@ -45,6 +58,8 @@ static inline size_t read_image(void *context, void *bytes, size_t count, bool *
     image *from = context;
     const size_t rest = from->length - from->at;
     const size_t read = count < rest ? count : rest;
+    EXPECT(from->is_over, false);
+    from->is_over = from->calls_left == 0 || read < count;
     if (from->calls_left-- == 0) {
         *could = false;
         return 0;

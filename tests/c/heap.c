@@ -116,6 +116,7 @@ void *__wrap_realloc(void *at, size_t size) {
     return counted(__real_realloc(at, size + BEHIND), size);
 }
 
+/* Sanitizers refuse a size that isn't a multiple of the alignment. */
 void *__wrap_aligned_alloc(size_t alignment, size_t size) {
     const size_t with_end = (size + BEHIND + alignment - 1) / alignment * alignment;
     return refuses() ? NULL : counted(__real_aligned_alloc(alignment, with_end), size);

@@ -26,6 +26,7 @@ static const struct row {
             {{UINT64_MAX, 0}, "sixteen bytes it", UINT32_MAX, MOST_USES, MOST_USES, true},
             {{6, 6}, "seventeen bytes i", 4, 2, 2, false},
             {{5, UINT64_MAX}, "eight by", 5, UINT32_MAX, MOST_USES, true},
+            {{0x0123456789abcdef, 0x13579bdf02468ace}, "mixed", 0x12345678, 0x1a2b3c4d, 0x1a2b3c4d, true},
             {{1, 3}, "b", 3, 5, 5, true}};
 enum { ROWS = sizeof rows / sizeof *rows, FITTING = ROWS - 2 };
 

@@ -212,6 +212,19 @@ void sizes() {
     }
 }
 
+// Where the usual charge isn't named it is 4,096: so many entries of less are kept as that has slots for.
+void usual_charge() {
+    const std::unique_ptr<Cache> cache(ferretgold::new_leveldb_cache(std::size_t{1} << 20));
+    long kept = 0;
+    for (long number = 0; number < 1000; number++) {
+        insert(*cache, key_of(number), number);
+    }
+    for (long number = 0; number < 1000; number++) {
+        kept += found(*cache, key_of(number)) == number;
+    }
+    EXPECT(kept > 256 * 84 / 100 && kept <= 512 * 84 / 100, true);
+}
+
 // Keys of each length, all at once; unlike ones aren't found, also if they are found alike.
 void keys() {
     std::unique_ptr<Cache> cache(ferretgold::new_leveldb_cache(1000, 1));
@@ -483,6 +496,7 @@ int main(int count, char **words) {
     play(32 * HUGE_CHARGE, HUGE_CHARGE, OF_MUCH);
     play(0, 1, OF_NOTHING);
     sizes();
+    usual_charge();
     keys();
     evictions();
     scans();

@@ -1,7 +1,7 @@
 /* The calls of ferretgold_object.h on one thread: answers and refusals, whose the object is after
  * each, when deleters run and what they may do. tests/c/object_opening.c has configurations and the
- * memory of a cache, object_seeds.c seeds, object_bytes.c bytes, object_threads.c what several threads
- * do. Linked with heap.c.
+ * memory of a cache, object_seeds.c seeds, object_bytes.c bytes, object_order.c two refusals at once,
+ * object_uses.c uses, object_threads.c what several threads do. Linked with heap.c.
  * Usage: object [OPERATIONS]          of eight threads: 1,000,000 at most and by default
  *        object threads OPERATIONS    these alone
  *        object owned                 ends by the checking library's line */
@@ -657,6 +657,8 @@ int main(int count, char **words) {
         object_opening();
         object_bytes();
         object_seeds();
+        object_orders();
+        object_uses();
     }
     object_walks();
     object_threads(count > 1 ? strtoul(words[count - 1], NULL, 10) : 1000000);

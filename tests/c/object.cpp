@@ -1,8 +1,9 @@
 // ferretgold_object.hpp: whose an object is after each answer, by objects that count their lives;
 // pointers and caches that go in any order; destructors that call the cache; and eight threads that
 // pass pointers on. With exceptions or without. Linked with heap.c.
-// Usage: object [OPERATIONS]    of eight threads: 1,000,000 by default
-//        object owned           ends by the checking library's line
+// Usage: object [OPERATIONS]           of eight threads: 1,000,000 by default
+//        object threads OPERATIONS     these alone
+//        object owned                  ends by the checking library's line
 #include "ferretgold_object.hpp"
 #include "heap.h"
 
@@ -12,6 +13,9 @@
 #include <random>
 #include <thread>
 #include <vector>
+
+// What is a use of an entry: how many faults (object_uses.cpp).
+long object_uses();
 
 namespace {
 
@@ -155,7 +159,7 @@ const row ROWS[] = {
 // Makes the insertion of a row, by one call or by the other: what it comes to.
 int insert_row(blocks &cache, const row &it, bool pins, std::unique_ptr<block> &&object,
                holding &given) {
-    ferretgold_inserted inserted = FERRETGOLD_DROPPED;
+    ferretgold_inserted inserted = FERRETGOLD_THERE; // and so after a refusal
     ferretgold_status why = FERRETGOLD_NULL;
     const auto priority = static_cast<ferretgold_priority>(it.priority);
     if (pins) {
@@ -164,6 +168,7 @@ int insert_row(blocks &cache, const row &it, bool pins, std::unique_ptr<block> &
     } else {
         why = cache.insert(key_of(it.number), std::move(object), it.charge, priority, &inserted);
     }
+    EXPECT(inserted == FERRETGOLD_THERE, why != FERRETGOLD_OK);
     return why == FERRETGOLD_OK ? inserted : not_so(why);
 }
 
@@ -579,13 +584,7 @@ void owned() {
     }
 }
 
-} // namespace
-
-int main(int count, char **words) {
-    if (count > 1 && std::strcmp(words[1], "owned") == 0) {
-        owned();
-        return 1;
-    }
+void rows() {
     for (const row &it : ROWS) {
         try_row(it, false);
         try_row(it, true);
@@ -607,7 +606,20 @@ int main(int count, char **words) {
     coming_back();
     parents();
     EXPECT(lives.load(), 0);
-    threads(count > 1 ? std::strtoul(words[1], nullptr, 10) : 1000000);
+    EXPECT(object_uses(), 0);
+}
+
+} // namespace
+
+int main(int count, char **words) {
+    if (count > 1 && std::strcmp(words[1], "owned") == 0) {
+        owned();
+        return 1;
+    }
+    if (count < 3) {
+        rows();
+    }
+    threads(count > 1 ? std::strtoul(words[count - 1], nullptr, 10) : 1000000);
     std::printf("object.cpp: %ld faults\n", faults.load());
     return faults != 0;
 }

@@ -163,7 +163,8 @@ static void compare(const worker *workers) {
     MUST(is.refused > 0);
     MUST(ferretgold_object_client_counts(cache, CLIENTS, &nowhere) == FERRETGOLD_OK);
     MUST(ferretgold_object_client_counts(cache, CLIENTS + 1, &is) == FERRETGOLD_OUT_OF_RANGE);
-    MUST(ferretgold_object_client_counts(cache, 0, NULL) == FERRETGOLD_NULL);
+    MUST(ferretgold_object_client_counts(cache, CLIENTS + 1, NULL) == FERRETGOLD_NULL);
+    MUST(ferretgold_object_client_counts(NULL, CLIENTS + 1, &is) == FERRETGOLD_NULL);
     MUST(ferretgold_object_cache_counts(NULL, &is) == FERRETGOLD_NULL);
     MUST(ferretgold_object_close(cache) == FERRETGOLD_OK);
     MUST(atomic_load(&deleted) == sum.placed + sum.standalone);

@@ -5,6 +5,7 @@
 
 #include "ferretgold_file.h"
 #include "heap.h"
+#include "outlives.h"
 
 #include <dirent.h>
 #include <limits.h>
@@ -240,7 +241,28 @@ static void comes_last(const char *path) {
     EXPECT(twice > 0, true);
 }
 
-static void rows(const char *path, const char *folder) {
+static race_end race(void *path, const ferretgold_object_config *config, ferretgold_priority rival) {
+    ferretgold_object_cache *cache = NULL;
+    EXPECT(ferretgold_object_open(config, ferretgold_object_free_bytes, NULL, &cache), FERRETGOLD_OK);
+    EXPECT(ferretgold_object_warm(cache, path, NULL, NULL, NULL), FERRETGOLD_FILE_OK);
+    const race_end is = raced(cache, rival);
+    EXPECT(ferretgold_object_close(cache), FERRETGOLD_OK);
+    return is;
+}
+
+/* What comes back is of low priority. */
+static void comes_back_low(char *path) {
+    const ferretgold_object_config config = racing_config(1);
+    const ferretgold_key key = racer_key(RACER);
+    ferretgold_object_cache *cache = NULL;
+    EXPECT(ferretgold_object_open(&config, ferretgold_object_free_bytes, NULL, &cache), FERRETGOLD_OK);
+    EXPECT(ferretgold_object_insert_bytes(cache, &key, "it", 2, 10, FERRETGOLD_BOTTOM, NULL), FERRETGOLD_OK);
+    EXPECT(dump(cache, path), FERRETGOLD_FILE_OK);
+    EXPECT(uses_by(race, path), 2);
+    EXPECT(ferretgold_object_close(cache), FERRETGOLD_OK);
+}
+
+static void rows(char *path, const char *folder) {
     const unsigned files = open_files();
     char beside[600];
     struct stat is;
@@ -265,6 +287,7 @@ static void rows(const char *path, const char *folder) {
     EXPECT(truncate(path, is.st_size - 41), 0);
     begins(path, FERRETGOLD_FILE_DAMAGED, NULL);
     comes_last(path);
+    comes_back_low(path);
     EXPECT(ferretgold_object_close(cache), FERRETGOLD_OK);
     EXPECT(open_files(), files);
     EXPECT(unlink(path), 0);

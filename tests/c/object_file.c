@@ -106,7 +106,7 @@ static void closed(ferretgold_object_cache *cache) {
 
 static ferretgold_file_status save(image *to, size_t calls, uint64_t *saved) {
     ferretgold_object_cache *cache = filled();
-    to->length = 0;
+    empty_image(to);
     to->calls_left = calls;
     const ferretgold_file_status status =
         ferretgold_object_save(cache, NULL, NULL, NULL, write_image, to, saved);
@@ -128,7 +128,7 @@ static bool make(void *context, const ferretgold_object_saved *it) {
 
 static ferretgold_file_status load(image *from, ferretgold_object_cache *cache,
                                    ferretgold_loaded *loaded) {
-    from->at = 0;
+    begin_image(from);
     return ferretgold_object_load(read_image, from, make, cache, loaded);
 }
 
@@ -334,7 +334,7 @@ static void numbered(image *file) {
         const ferretgold_key key = {it, it};
         EXPECT(ferretgold_object_insert_bytes(cache, &key, NULL, 0, 1, FERRETGOLD_LOW, NULL), FERRETGOLD_OK);
     }
-    file->length = file->at = 0;
+    empty_image(file);
     EXPECT(ferretgold_object_save(cache, NULL, NULL, NULL, write_image, file, &saved), FERRETGOLD_FILE_OK);
     EXPECT(saved, MANY);
     for (uint64_t number = 1; number <= MANY; number++) {
@@ -379,7 +379,7 @@ static void of_a_kind(image *file) {
     uint64_t saved = 0, sum = 0;
     bool could = true;
     for (int round = 0; round < 2; round++, could = false) {
-        file->length = file->at = 0;
+        empty_image(file);
         EXPECT(ferretgold_object_save(cache, number_size, number_copy, &could, write_image, file,
                                       &saved), could ? FERRETGOLD_FILE_OK : FERRETGOLD_FILE_WRITE);
         EXPECT(saved, could);
@@ -421,13 +421,13 @@ static void busy(image *file) {
     yielding = opened(&config);
     insert(yielding, 1);
     EXPECT(ferretgold_object_lookup(yielding, &key, &handle), FERRETGOLD_OK);
-    file->length = 0;
+    empty_image(file);
     EXPECT(ferretgold_object_save(yielding, NULL, NULL, NULL, write_image, file, &saved),
            FERRETGOLD_FILE_BUSY);
     EXPECT(saved == 0 && yields == 63, true);
     yields = 0;
     given_back = handle;
-    file->length = 0;
+    empty_image(file);
     EXPECT(ferretgold_object_save(yielding, NULL, NULL, NULL, write_image, file, NULL),
            FERRETGOLD_FILE_OK);
     EXPECT(file->length == BEGIN + HEAD + length_of(1) + SUM + HEAD && yields == 3, true);
@@ -439,12 +439,12 @@ static void of_other_versions(image *file) {
     const ferretgold_config plain = FERRETGOLD_CONFIG;
     ferretgold_cache *cache = NULL;
     ferretgold_closed *left = NULL;
-    file->at = 0;
+    begin_image(file);
     EXPECT(ferretgold_load(&plain, read_image, file, true, &cache, NULL), FERRETGOLD_FILE_VERSION);
     EXPECT(cache == NULL, true);
     EXPECT(ferretgold_open(&plain, &cache), FERRETGOLD_OK);
     EXPECT(ferretgold_close_keeping(cache, &left), FERRETGOLD_OK);
-    file->length = file->at = 0;
+    empty_image(file);
     EXPECT(ferretgold_save(left, write_image, file), FERRETGOLD_FILE_OK);
     ferretgold_closed_free(left);
     EXPECT(ferretgold_object_load(read_image, file, make, NULL, NULL), FERRETGOLD_FILE_VERSION);
@@ -499,7 +499,7 @@ static void beside_threads(image *file) {
     }
     for (int round = 0; round < 200 || all < 1000; round++) {
         ferretgold_loaded loaded = {0, 0, 0};
-        file->length = file->at = 0;
+        empty_image(file);
         EXPECT(ferretgold_object_save(cache, number_size, number_copy, &could, write_image, file,
                                       &saved), FERRETGOLD_FILE_OK);
         EXPECT(ferretgold_object_load(read_image, file, is_standing, &read, &loaded),

@@ -48,6 +48,10 @@ static void good_configs(void) {
     EXPECT(memcmp(&config, &same, sizeof config), 0);
     EXPECT(ferretgold_object_close(cache), FERRETGOLD_OK);
     EXPECT(ferretgold_object_config_check(&usual), FERRETGOLD_OK);
+    EXPECT(usual.slots == 4096 && usual.clients == 64 && usual.handles == 256 && usual.gone == 256, true);
+    EXPECT(usual.shards == 4 && usual.size == 48 && usual.capacity == 46972928, true);
+    EXPECT(usual.strict || usual.marks, false);
+    EXPECT(usual.serials == UINT64_C(1) << 54 && usual.seed == 0, true);
 }
 
 /* What is allocated is what ferretgold_object_memory says; an opening that is refused leaves

@@ -27,6 +27,12 @@ void object_bytes(void);
 /* Seeds, and what is drawn. */
 void object_seeds(void);
 
+/* Of two refusals the first. */
+void object_orders(void);
+
+/* What is a use of an entry. */
+void object_uses(void);
+
 /* Walks, alone and while others insert and erase. */
 void object_walks(void);
 

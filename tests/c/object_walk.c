@@ -53,11 +53,15 @@ static ferretgold_object_cache *filled(atomic_ulong *deleted) {
 typedef struct visits {
     unsigned of[KEYS];
     unsigned all, most;
+    bool resumes;
 } visits;
 
 static bool note(void *context, const ferretgold_object_handle *handle) {
     visits *it = context;
     EXPECT(handle->object == object_of(handle->key.w0) && handle->charge == 1, true);
+    EXPECT(handle->key.w1 == 77 && handle->kind == 3, true);
+    EXPECT(it->all == 0 || it->all % it->most != 0 || it->resumes, true); /* none behind the last one */
+    it->resumes = false;
     it->of[handle->key.w0] += 1;
     it->all += 1;
     return it->all % it->most != 0;
@@ -66,10 +70,11 @@ static bool note(void *context, const ferretgold_object_handle *handle) {
 /* Walks by so many slots a call, each of which ends behind so many visits. */
 static void walk_by(ferretgold_object_cache *cache, uint64_t slots, unsigned most) {
     ferretgold_object_place place = {0, 0};
-    visits it = {{0}, 0, most};
+    visits it = {{0}, 0, most, false};
     ferretgold_status status;
     unsigned calls = 0;
     do {
+        it.resumes = true;
         status = ferretgold_object_walk(cache, &place, slots, note, &it);
         calls += 1;
     } while (status == FERRETGOLD_OK && calls < 100);
@@ -87,7 +92,7 @@ static void walk_by(ferretgold_object_cache *cache, uint64_t slots, unsigned mos
 static void walk_refused(ferretgold_object_cache *cache) {
     const ferretgold_object_handle *held[4];
     ferretgold_object_place place = {0, 0};
-    visits it = {{0}, 0, KEYS + 1};
+    visits it = {{0}, 0, KEYS + 1, false};
     uint64_t hidden = 9;
     for (uint64_t number = 0; number < 4; number++) {
         const ferretgold_key key = key_of(number);
@@ -129,6 +134,54 @@ static void erase_meant(ferretgold_object_cache *cache, atomic_ulong *deleted) {
     EXPECT(atomic_load(deleted), KEYS);
 }
 
+/* What hears of entries while others see what it does. */
+typedef struct listener {
+    ferretgold_object_cache *cache;
+    atomic_ulong *deleted;
+    unsigned heard;
+} listener;
+
+/* Erases each entry that is visited: it stays until then, and the deleters of those before have run. */
+static bool erase_visited(void *context, const ferretgold_object_handle *handle) {
+    listener *it = context;
+    uint32_t hidden = 9;
+    EXPECT(atomic_load(it->deleted), it->heard);
+    EXPECT(ferretgold_object_erase(it->cache, &handle->key, &hidden), FERRETGOLD_OK);
+    EXPECT(hidden, 1);
+    EXPECT(atomic_load(it->deleted), it->heard);
+    EXPECT(handle->object == object_of(handle->key.w0), true);
+    it->heard += 1;
+    return true;
+}
+
+/* Is asked before the entry is hidden, and once all before are gone. */
+static bool is_there_still(void *context, const ferretgold_key *key) {
+    listener *it = context;
+    EXPECT(key->w1, 77);
+    EXPECT(is_there(it->cache, key->w0), true);
+    EXPECT(atomic_load(it->deleted), it->heard);
+    it->heard += 1;
+    return true;
+}
+
+static void hears(void) {
+    atomic_ulong deleted = 0;
+    listener it = {filled(&deleted), &deleted, 0};
+    ferretgold_object_place place = {0, 0};
+    uint64_t hidden = 9;
+    EXPECT(ferretgold_object_walk(it.cache, &place, UINT64_MAX, erase_visited, &it), FERRETGOLD_MISS);
+    EXPECT(it.heard == KEYS && atomic_load(&deleted) == KEYS, true);
+    for (uint64_t number = 0; number < KEYS; number++) {
+        insert(it.cache, number);
+    }
+    atomic_store(&deleted, 0);
+    it.heard = 0;
+    EXPECT(ferretgold_object_erase_where(it.cache, is_there_still, &it, &hidden), FERRETGOLD_OK);
+    EXPECT(it.heard == KEYS && atomic_load(&deleted) == KEYS && hidden == KEYS, true);
+    EXPECT(ferretgold_object_close(it.cache), FERRETGOLD_OK);
+    EXPECT(atomic_load(&deleted), KEYS);
+}
+
 static void rows(void) {
     static const struct {
         uint64_t slots;
@@ -137,7 +190,7 @@ static void rows(void) {
     atomic_ulong deleted = 0;
     ferretgold_object_cache *cache = filled(&deleted);
     ferretgold_object_place place = {0, 8}; /* no such slot */
-    visits it = {{0}, 0, 1};
+    visits it = {{0}, 0, 1, false};
     for (size_t k = 0; k < sizeof ALL / sizeof *ALL; k++) {
         walk_by(cache, ALL[k].slots, ALL[k].most);
     }
@@ -221,6 +274,7 @@ void object_walks(void) {
     config.clients = WRITERS + 1;
     config.handles = STANDING + 1;
     rows();
+    hears();
     EXPECT(ferretgold_object_open(&config, count, &deleted, &cache), FERRETGOLD_OK);
     for (uint64_t number = 0; number < STANDING; number++) {
         const ferretgold_key key = key_of(number);

@@ -46,10 +46,11 @@ HEADERS = ["include/ferretgold_raw.h", "include/ferretgold_closed.h", "include/f
            "src/chosen.h", "src/closed.h", "src/counts.h", "src/file.h", "src/heap.h", "src/limits.h", "src/object.h",
            "src/object_call.h", "src/opening.h", "src/walk.h"]
 CHANCE = "by chance: "
-PLAYS = [f"tests/c/{it}.c" for it in ("play", "edges", "counted", "seeds", "budgets", "closed", "image")]
+PLAYS = [f"tests/c/{it}.c" for it in ("play", "edges", "order", "counted", "seeds", "budgets", "closed", "image")]
 CPP = ["tests/c/play.cpp", "tests/c/closed.cpp"]
 STREAMS = ["tests/c/file.cpp"]
-HANDED = [f"tests/c/object{it}.c" for it in ("", "_bytes", "_opening", "_seeds", "_threads", "_walk")]
+HANDED = [f"tests/c/object{it}.c" for it in
+          ("", "_bytes", "_opening", "_order", "_seeds", "_threads", "_uses", "_walk")]
 PROVED = TOP / "crates/hcc_c/out/libhcc_c.a"
 WRAP = "-Wl,--wrap=malloc,--wrap=realloc,--wrap=aligned_alloc,--wrap=free,--wrap=getrandom"
 MET = "ferretgold: two threads use client 0 at once: ferretgold_usage and ferretgold_insert_pinned\n"

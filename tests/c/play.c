@@ -1,6 +1,6 @@
 /* Plays traces of calls through ferretgold.h alone, and compares each answer with the one recorded
- * beside its call; then tries what no trace shows (edges.c, counted.c, seeds.c, budgets.c, closed.c,
- * image.c). It is what tests/c/plant.py tries planted bugs by.
+ * beside its call; then tries what no trace shows (edges.c, order.c, counted.c, seeds.c, budgets.c,
+ * closed.c, image.c). It is what tests/c/plant.py tries planted bugs by.
  * Usage: play FILE.. where a file has cases as tests/program/calls has, and a letter more:
  *     c T k0 k1 U|N n     reads a key's value to a buffer of n bytes: value V, short LENGTH, miss
  */
@@ -368,6 +368,7 @@ static void play_file(const char *path) {
 
 int main(int count, char **files) {
     edges();
+    orders();
     counted();
     seeds();
     budgets();

@@ -380,6 +380,17 @@ void defaults() {
     EXPECT(uses() == 5);
     one.lookup(KEY).release(false);
     EXPECT(uses() == 5);
+    handle held = one.lookup(KEY);
+    held = handle();
+    EXPECT(uses() == 6);
+    { const client gone = std::move(one); }
+    {
+        const ferretgold::lease given(it);
+        ferretgold_handle left{};
+        EXPECT(ferretgold_lookup(given.get(), &KEY, &left) == 0);
+    }
+    one = it.open_client();
+    EXPECT(uses() == 6);
     EXPECT(one.erase(KEY) == 1 && one.erase(KEY) == 0);
     (void)one.insert_pinned(KEY, "", 0, 1);
     EXPECT(uses() == 2);

@@ -76,7 +76,7 @@ hands() {
     builds_counting "$2" cc -std=c11 "${@:3}" tests/c/objects.c && "$folder/built" "$1"
 }
 
-of_objects=(tests/c/object{,_bytes,_opening,_seeds,_threads,_walk}.c)
+of_objects=(tests/c/object{,_bytes,_opening,_order,_seeds,_threads,_uses,_walk}.c)
 
 # Makes the calls of ferretgold_object.h, so many by threads: objects OPERATIONS LIBRARY WORD..
 objects() {
@@ -90,7 +90,17 @@ objects_of_threads() {
 
 # The same of its wrapper for C++: wraps OPERATIONS LIBRARY WORD..
 wraps() {
-    builds_counting "$2" c++ -std=c++17 "${@:3}" tests/c/object.cpp && "$folder/built" "$1"
+    builds_counting "$2" c++ -std=c++17 "${@:3}" tests/c/object{,_uses}.cpp && "$folder/built" "$1"
+}
+
+# The calls of threads alone: wraps_threads OPERATIONS WORD..
+wraps_threads() {
+    builds_counting -lstdc++ c++ -std=c++17 tests/c/object{,_uses}.cpp "${@:2}" && "$folder/built" threads "$1"
+}
+
+# Lets a cache, its clients and handles of C++ go on other threads: shares ROUNDS LIBRARY WORD..
+shares() {
+    builds c++ -std=c++17 "${@:3}" tests/c/shared.cpp "$2" && "$folder/built" "$1"
 }
 
 # The header for objects is one of C99 and of C++11, too: is_plain WORD..
@@ -112,12 +122,17 @@ objects_in_rust() {
     local name words=(--edition 2021 -O -D warnings) sanitizer=
     [[ $# == 1 ]] || sanitizer=$(readlink -f "$(cc -print-file-name=libasan.so)")
     rustc "${words[@]}" --crate-type rlib --crate-name ferretgold rust/src/lib.rs --out-dir "$folder" || return
-    for name in objects loads seeds; do
+    for name in objects loads panics uses configs seeds; do
         rustc "${words[@]}" --test "rust/tests/$name.rs" --extern "ferretgold=$folder/libferretgold.rlib" \
             -C link-arg="$1" "${@:2}" -o "$folder/built" && LD_PRELOAD=$sanitizer "$folder/built" || return
     done
     cc -shared -fPIC tests/c/no_seeds.c -o "$folder/no_seeds.so" \
         && NO_SEEDS=1 LD_PRELOAD=$sanitizer:$folder/no_seeds.so "$folder/built"
+}
+
+# A shard of the most slots with the most room, filled up.
+is_filled() {
+    builds_counting "$library" cc -std=c11 -O2 tests/c/most.c && "$folder/built"
 }
 
 # Builds a program and runs it: runs WORD..
@@ -251,7 +266,7 @@ in_rust='40000 squares are right, and the books agree with the slots
 
 wrap=-Wl,--wrap=malloc,--wrap=realloc,--wrap=aligned_alloc,--wrap=free,--wrap=getrandom
 library=src/out/libferretgold.a
-traces=(tests/c/{play,edges,counted,seeds,budgets,closed,image}.c)
+traces=(tests/c/{play,edges,order,counted,seeds,budgets,closed,image}.c)
 met='ferretgold: two threads use client 0 at once: ferretgold_usage and ferretgold_insert_pinned'
 
 if command -v cc > /dev/null; then
@@ -275,6 +290,7 @@ if command -v cc > /dev/null; then
     tries "the header for objects, checked" owns 3 objects
     tries "the header for objects in C99" is_plain cc -std=c99 -x c
     tries "two threads in one client, checked" meets
+    tries "the largest shard" is_filled
     tries "each function of the header is a symbol of the library" exports
     tries "the guide's table of budgets" is_in_guide
     tries "headers of another version, no call inline" is_tied -O0
@@ -310,6 +326,7 @@ if command -v c++ > /dev/null; then
     tries "C++ without exceptions" runs "${bare[@]}" src/out/libferretgold.a
     tries "the header for objects in C++11" is_plain c++ -std=c++11 -x c++
     tries "objects in C++" wraps 1000000 src/out/libferretgold.a -O2
+    tries "caches that go on other threads in C++" shares 5000 src/out/libferretgold.a -O2
     tries "objects in C++, checked" owns 0 wraps
     tries "objects in C++ without exceptions" wraps 100000 src/out/libferretgold.a -O1 -fno-exceptions -fno-rtti
     if sanitizes c c++; then
@@ -318,6 +335,10 @@ if command -v c++ > /dev/null; then
         tries "traces in C++, sanitized" plays "$library" "${traces[@]}" "${sanitize[@]}"
         tries "C++ without exceptions, sanitized" runs "${bare[@]}" "${sanitize[@]}" "$library"
         tries "objects in C++, sanitized" wraps 400000 "$library" -O1 "${sanitize[@]}"
+        tries "objects in C++, threads sanitized" sees_steps_of wraps_threads 300000
+        tries "caches that go on other threads in C++, sanitized" shares 1000 "$library" -O1 "${sanitize[@]}"
+        tries "caches that go on other threads in C++, threads sanitized" shares 1000 \
+            "$folder/threads/libferretgold.a" -O1 -fsanitize=thread
     fi
 else
     lacks "C++ compiler"
@@ -326,6 +347,7 @@ if command -v rustc > /dev/null; then
     tries "Rust" prints "$in_rust" run-rust
     tries "objects in Rust" objects_in_rust src/out/libferretgold.a
     library=src/out/libferretgold.a tries "the crate of another version" is_tied_in_rust
+    tries "what must not compile" tests/c/must_fail.py
     tries "objects in Rust, checked" objects_in_rust src/out/libferretgold_check.a
     if sanitizes c cc; then
         tries "objects in Rust, sanitized" objects_in_rust "$library" -C link-args="-lasan -lubsan"
