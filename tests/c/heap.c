@@ -28,10 +28,11 @@ int draws_left = -1;
 unsigned long draws_met = 0;
 const uint64_t *draws_give = NULL;
 
-/* Each block's address and size. */
+/* Each block's address and size, and how many bytes tell whether something wrote behind it: none where it
+ * was moved, so that its neighbours lie as they would. */
 static struct block {
     void *at;
-    size_t size;
+    size_t size, behind;
 } blocks[PLACES];
 
 void *__real_malloc(size_t size);
@@ -54,10 +55,10 @@ static struct block *place_of(void *at) {
     return &blocks[place];
 }
 
-static void *counted(void *at, size_t size) {
+static void *counted(void *at, size_t size, size_t behind) {
     if (at != NULL) {
-        *place_of(at) = (struct block){at, size};
-        memcpy((char *)at + size, stands_behind, BEHIND);
+        *place_of(at) = (struct block){at, size, behind};
+        memcpy((char *)at + size, stands_behind, behind);
         heap_blocks += 1;
         heap_bytes += size;
         heap_most = heap_bytes > heap_most ? heap_bytes : heap_most;
@@ -81,7 +82,7 @@ static void uncount(void *at) {
         return;
     }
     struct block *it = place_of(at);
-    if (it->at == NULL || memcmp((char *)at + it->size, stands_behind, BEHIND) != 0) {
+    if (it->at == NULL || memcmp((char *)at + it->size, stands_behind, it->behind) != 0) {
         abort();
     }
     heap_blocks -= 1;
@@ -105,7 +106,7 @@ size_t heap_large(void) {
 }
 
 void *__wrap_malloc(size_t size) {
-    return refuses() ? NULL : counted(__real_malloc(size + BEHIND), size);
+    return refuses() ? NULL : counted(__real_malloc(size + BEHIND), size, BEHIND);
 }
 
 void *__wrap_realloc(void *at, size_t size) {
@@ -113,13 +114,13 @@ void *__wrap_realloc(void *at, size_t size) {
         return NULL;
     }
     uncount(at);
-    return counted(__real_realloc(at, size + BEHIND), size);
+    return counted(__real_realloc(at, size), size, 0);
 }
 
 /* Sanitizers refuse a size that isn't a multiple of the alignment. */
 void *__wrap_aligned_alloc(size_t alignment, size_t size) {
     const size_t with_end = (size + BEHIND + alignment - 1) / alignment * alignment;
-    return refuses() ? NULL : counted(__real_aligned_alloc(alignment, with_end), size);
+    return refuses() ? NULL : counted(__real_aligned_alloc(alignment, with_end), size, BEHIND);
 }
 
 void __wrap_free(void *at) {
