@@ -420,9 +420,8 @@ ferretgold_status ferretgold_erase(ferretgold_client *client, const ferretgold_k
         return FERRETGOLD_NO_CLIENT;
     }
     uint32_t ignored = 0;
-    const uint32_t status =
-        ferretgold_raw_erase(&client->session, key, hidden != NULL ? hidden : &ignored);
-    return ferretgold_leave(client, status);
+    return ferretgold_leave(client, ferretgold_raw_erase(&client->session, key,
+                                                         hidden != NULL ? hidden : &ignored));
 }
 
 /* ---- Totals and words ------------------------------------------------------------------------ */
