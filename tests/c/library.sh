@@ -6,7 +6,7 @@
 # all of that lies in a folder TARGET of these two; a developer's own libraries are taken as they are then.
 # Usage: [KEPT=FOLDER] tests/c/library.sh [TARGET]    as aarch64-unknown-linux-gnu
 # With KEPT, what is proved over statements is kept in that folder, and what an earlier run kept there is
-# taken: a function's proof is the same for each processor.
+# taken: a function's proof is the same for each processor. KEPT.done has it as the first run left it.
 set -eu -o pipefail
 cd "$(dirname "$0")/../.."
 crates=$PWD/crates
@@ -42,4 +42,7 @@ by_rt() {
 mkdir -p "$out"
 { over_statements || (by_rt); } 2>&1 | tee "$out/said"
 grep '^logic=proved ' "$out/said" | tail -n 1 > "$out/verdict"
+if [[ -d ${KEPT-} && ! -d $KEPT.done ]]; then
+    cp -al "$KEPT" "$KEPT.being" && mv "$KEPT.being" "$KEPT.done"
+fi
 make -s -C src TARGET="$target"

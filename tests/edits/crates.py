@@ -36,7 +36,7 @@ class Crate:
             words += ["--extern", f"{it}={rlibs}/{it}.rlib"]
         words += ["-L", f"dependency={KIT}/rlibs", "-L", f"dependency={rlibs}"]
         words += ["--antt-project", f"{KIT}/rattle/logic/antt-project.json"]
-        words += ["--logic-built", f"{KIT}/logic_built", "--jobs", "1", "--links", f"{self.name}="]
+        words += ["--logic-built", f"{KIT}/logic_built", "--links", f"{self.name}="]
         return words + (["--crate-type", "staticlib"] if self.is_static else [])
 
     def files(self, *endings):

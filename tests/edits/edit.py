@@ -3,8 +3,8 @@
 It has lines 'file: PATH', and pairs of lines 'old: TEXT' and 'new: TEXT', each text in its file once.
 must-fail/ has a file for each, as rt reads them, named FILE.FUNCTION.WHAT.edit. edits/ has a file for
 each file of code: a line 'file: PATH', and behind it the edits, each under a line 'edit:
-FUNCTION.WHAT'. Where the compiler has to refuse it, a line 'error: TEXT' stands there with text of its
-error. The crate's files are in rt fmt's layout: the first line of an item and its last have one
+FUNCTION.WHAT'. There may stand 'breaks: GOAL', which is all that the edit is tried against; and where
+the compiler has to refuse it, 'error: TEXT' with text of its error. The crate's files are in rt fmt's layout: the first line of an item and its last have one
 indent."""
 import glob
 import os
@@ -19,22 +19,24 @@ GHOST = re.compile(r"\s+ghost \w+ = ")
 
 
 def read_edits(file):
-    """The edits of a file by their names, each with its changes, path, old text and new text, and the
-    compiler's errors."""
+    """The edits of a file by their names, each with its changes, path, old text and new text, the
+    compiler's errors, and what it breaks, if it says so."""
     folder, stem = os.path.split(file.removesuffix(".edit"))
     name, first, old, found = "", "", None, {}
     if os.path.basename(folder) == "must-fail":
         name = stem
-        found[name] = [], []
+        found[name] = [], [], []
     with open(file, encoding="utf-8") as it:
         for line in it.read().split("\n"):
             if line.startswith("edit: "):
                 path, name = first, f"{os.path.basename(first).partition('.')[0]}.{line[6:].strip()}"
                 if name in found:
                     raise ValueError(f"{file}: {name} stands twice")
-                found[name] = [], []
+                found[name] = [], [], []
             elif line.startswith("error: "):
                 found[name][1].append(line[7:].strip())
+            elif line.startswith("breaks: "):
+                found[name][2].append(line[8:].strip())
             elif line.startswith("file: "):
                 path = line[6:].strip()
                 first = first or path
@@ -68,9 +70,9 @@ class Edit:
     """An edit, the functions whose bodies alone it changes (none: it changes more than bodies, or the
     compiler has to refuse it), and what came of it."""
 
-    def __init__(self, crate, name, pairs, errors, is_of_gate):
+    def __init__(self, crate, name, pairs, errors, breaks, is_of_gate):
         self.crate, self.name, self.pairs, self.is_of_gate = crate.name, name, pairs, is_of_gate
-        self.errors = errors
+        self.errors, self.breaks = errors, "".join(breaks)
         self.key = f"{crate.name}/{self.name}"
         self.symbols = []
         self.verdict, self.said, self.goals = None, "", set()

@@ -19,6 +19,7 @@ FUNCTION = re.compile(r"fn (\S+): (.*)")
 NAMED = re.compile(r"\(`(\S+?)`\)")
 UNFOUND = re.compile(r"`search` did not prove (`.*)")
 IN_PROOF = re.compile(r"error: `(\S+?)`")
+OF_GOAL = re.compile(r"error: (`|\d+ declarations? )")  # or of declarations that rest on a refused one
 LOOPS = "expected a measure"  # of a loop that an edit added, which need not end
 CALLED = re.compile(r"`\w+?::(\S+)`")
 
@@ -52,20 +53,25 @@ class Room:
                 shutil.copytree(f"{crate.folder}/{part}", f"{self.folder}/{part}")
         self.changed, self.checks = {}, 0
 
-    def check(self, texts, only=(), log=None):
+    def check(self, texts, only=(), log=None, makes_seed=False):
         """Checks the crate with these texts in place of its own: the functions that are named, or all.
-        Without a seed, it makes it. Gives the status, what was said, and the seconds that it took."""
+        Gives the status, what was said, and the seconds that it took."""
         kept = self.seed
-        if os.path.isdir(kept):
+        if not makes_seed:
             kept = f"{self.folder}.kept"
             linked(self.seed, kept)
         for path in set(self.changed) - set(texts):
-            shutil.copyfile(f"{self.crate.folder}/{path}", f"{self.folder}/{path}")
+            if os.path.isfile(f"{self.crate.folder}/{path}"):
+                shutil.copyfile(f"{self.crate.folder}/{path}", f"{self.folder}/{path}")
+            else:
+                os.remove(f"{self.folder}/{path}")
         for path, text in texts.items():
+            os.makedirs(os.path.dirname(f"{self.folder}/{path}"), exist_ok=True)
             with open(f"{self.folder}/{path}", "w", encoding="utf-8") as it:
                 it.write(text)
         self.changed = dict(texts)
         words = [RATTLE, "check", *self.words, "--short-goals", "--incremental", kept]
+        words += ["--jobs", "2" if makes_seed else "1"]
         words += [it for name in only for it in ("--only", name)]
         began = time.monotonic()
         how = {"stdin": subprocess.DEVNULL, "stdout": subprocess.PIPE, "stderr": subprocess.STDOUT}
@@ -86,6 +92,12 @@ def is_unread(line, changed):
     if not at or at[1] not in changed and not at[1].startswith(("src/", "specs/")):
         return False
     return not at[2] or bool(UNREAD.search(re.sub(r"`[^`]*`", "", at[3])))
+
+
+def is_misread(said, symbol):
+    """Whether a function's proof can't be read as one: an error there is of no goal."""
+    errors = [it for it in said.split("\n") if (at := PROOF.match(it)) and f"/{symbol.replace('::', '/')}/" in f"/{at[1]}"]
+    return any(not OF_GOAL.search(it) for it in errors)
 
 
 def judged(said, symbols, changed):

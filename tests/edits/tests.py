@@ -11,7 +11,8 @@ import tempfile
 sys.dont_write_bytecode = True
 HERE = os.path.dirname(os.path.realpath(__file__))
 LEFT = "let left = (countdown - 1).min(GREATEST_CLOCKED);"
-# Name, file, old text, new text, verdict; the compiler's error.
+WORD = "(kind as u64) << ADDRESS_BITS | address"
+# Name, file, old text, new text, verdict; a line of what it breaks or of the compiler's error.
 EDITS = [
     ("changes.clocked.drops_one", "changes", LEFT, "let left = countdown.min(GREATEST_CLOCKED);", "refused"),
     ("changes.corrected.is_the_same", "changes", "releases < NEAR ||", "NEAR > releases ||", "NOT REFUSED"),
@@ -19,9 +20,11 @@ EDITS = [
     ("changes.started.names_nothing", "changes", "u32::from(keep), false", "u32::from(kept), false", "BAD EDIT"),
     ("fields.hit.is_elsewhere", "fields", "word & HIT_BIT == 7", "false", "BAD EDIT"),
     ("fields.refs.calls_less", "fields", "acquires(word).wrapping_sub(", "((word & COUNTER_MASK) as u32).wrapping_sub(", "BAD EDIT"),
-    ("changes.started.is_refused", "changes", "u32::from(keep), false", "u32::from(kept), false", "refused", "value `kept`"),
-    ("changes.started.errs_otherwise", "changes", "u32::from(keep), false", "u32::from(kept), false", "BAD EDIT", "is private"),
-    ("changes.clocked.compiles", "changes", LEFT, "let left = countdown.min(GREATEST_CLOCKED);", "BAD EDIT", "is private"),
+    ("changes.started.is_refused", "changes", "u32::from(keep), false", "u32::from(kept), false", "refused", "error: value `kept`"),
+    ("changes.started.errs_otherwise", "changes", "u32::from(keep), false", "u32::from(kept), false", "BAD EDIT", "error: is private"),
+    ("changes.clocked.compiles", "changes", LEFT, "let left = countdown.min(GREATEST_CLOCKED);", "BAD EDIT", "error: is private"),
+    ("objects.packed_object.leaves_the_kind_out", "objects", WORD, "address", "refused", "breaks: kind"),
+    ("objects.packed_object.is_the_same", "objects", WORD, f"let word = {WORD}; word", "NOT REFUSED", "breaks: kind"),
 ]
 ENSURES = "    ensures { SomeIff result (IsClockable word) (clocked_word word) }\n"
 failed = 0
@@ -35,10 +38,9 @@ def judge(name, ok, said=""):
         print(f"failed: {name}\n{said}")
 
 
-def put(name, file, old, new, *errors):
+def put(name, file, old, new, *lines):
     with open(f"crates/hcc_word/edits/{name}.edit", "w", encoding="utf-8") as it:
-        errors = "".join(f"error: {text}\n" for text in errors)
-        it.write(f"file: src/{file}.rt\n\nedit: {name.partition('.')[2]}\n{errors}old: {old}\nnew: {new}\n")
+        it.write("\n".join([f"file: src/{file}.rt\n", f"edit: {name.partition('.')[2]}", *lines, f"old: {old}", f"new: {new}\n"]))
 
 
 def tried(*words):
@@ -48,8 +50,8 @@ def tried(*words):
 
 
 def verdicts():
-    for name, file, old, new, _, *errors in EDITS:
-        put(name, file, old, new, *errors)
+    for name, file, old, new, _, *lines in EDITS:
+        put(name, file, old, new, *lines)
     status, said = tried()
     judge("a bad edit fails it", status == 1, said)
     for name, _, _, _, verdict, *_ in EDITS:
@@ -57,6 +59,7 @@ def verdicts():
         judge(f"{name}: {verdict}", found and found[1] == verdict, said)
     judge("names alone are told", "only a proof file names what it took away" in said, said)
     judge("what an edit breaks is told", f"{EDITS[0][0]}: refused: changes::clocked:returns\n" in said, said)
+    judge("it is tried by that alone", "leaves_the_kind_out: refused: objects::packed_object:kind\n" in said, said)
     for name, *_ in EDITS[1:]:
         os.remove(f"crates/hcc_word/edits/{name}.edit")
 

@@ -9,7 +9,8 @@ what it breaks: functions, each with a clause or what else had to hold there; el
 
 With --gate it runs beside rt ci, of which LOG has the output, and 'rt ci ended' behind it: a crate's
 edits are tried once the libraries below it are proved or kept, and once rt ci has ended in as many
-lanes as there are processors. With --until they are tried in an order that the commit draws, and none
+lanes as there are processors. KEPT is the folder in which tests/c/library.sh keeps its proof then, over
+which edits of its crate are tried. With --until they are tried in an order that the commit draws, and none
 are begun once so many seconds have passed; it prints which weren't tried."""
 import argparse
 import collections
@@ -33,8 +34,7 @@ from room import listing
 from trying import make_seed, try_edits
 
 PAUSE = 2  # seconds between two looks at a log
-PART = 60  # the most edits of a crate that a lane takes at once
-DRAWN_PART = 20  # the same where not all may be tried
+PART = 40  # the most edits of a crate that a lane takes at once
 
 
 def parts(edits, most):
@@ -66,10 +66,17 @@ class Libraries:
     def has_gate_ended(self):
         return not self.log or "rt ci ended" in self.said()
 
+    def begun(self, crate):
+        """The folder that has a proof of a static library, if the gate makes it, there or still to come."""
+        kept = os.environ.get("KEPT")
+        return f"{kept}.done" if self.log and kept and crate.is_static else None
+
     def lacking(self, crate):
         """None where all libraries below the crate are there, 'later' where some may still come, or
         which one won't."""
-        said = self.said()
+        said, begun = self.said(), self.begun(crate)
+        if begun and not os.path.isdir(begun) and "rt ci ended" not in said:
+            return "later"
         for name in crate.below:
             made = f"{self.crates[name].folder}/out/rlib/{name}.rlib"
             is_there = any(it.startswith((f"rt: {name} proved", f"rt: {name} is kept")) for it in said)
@@ -98,9 +105,10 @@ class Seeds:
         """The folder of a crate's seed, made if it isn't there; None where it isn't proved."""
         seed, rlibs = self.folder_of(name), self.libraries.folder
         if name not in self.made:
-            own = [it for it in self.edits if it.crate == name]
+            own, begun = [it for it in self.edits if it.crate == name], self.libraries.begun(self.crates[name])
             try:
-                made = make_seed(self.crates[name], own, rlibs, seed, self.say, self.log)
+                begun = begun if begun and os.path.isdir(begun) else None
+                made = make_seed(self.crates[name], own, rlibs, seed, begun, self.say, self.log)
                 self.made[name], self.why[name] = made
             finally:
                 self.making.discard(name)
@@ -129,7 +137,7 @@ class Lanes:
         of = [[it for it in edits if it.crate == name] for name in crates]
         if end:
             of = [sorted(it, key=lambda edit: drawn(edit.key)) for it in of]
-        self.left = [part for it in of for part in parts(it, DRAWN_PART if end else PART)]
+        self.left = [part for it in of for part in parts(it, PART)]
         weight = lambda part: -len(part) * (1 + len(crates[part[0].crate].below))
         self.left.sort(key=lambda part: drawn(part[0].key) if end else weight(part))
         self.taking = threading.Lock()

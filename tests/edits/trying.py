@@ -1,9 +1,10 @@
 """Tries a crate's edits, many in a check.
 
-A function's proof rests on the contracts of what it calls, and not on their bodies. So edits of the
-bodies of different functions go into one check, a round, and each edited function has to have a goal
-of its own that isn't proved. What a round leaves in doubt, as a function that calls another one of
-the round, is tried again without that one, then alone, and then by a check of the whole crate. Each
+A function's proof rests on the contracts of what it calls, and not on their bodies. So edits of bodies
+go into one check, a round, in copies of their functions. What can't be copied, or isn't refused so,
+goes into a round with edits of other functions, each in its place. Each edited function has to have a
+goal of its own that isn't proved. What a round leaves in doubt, as a function that calls another one
+of the round, is tried again without that one, then alone, and then by a check of the whole crate. Each
 check begins with what one without an edit kept, the seed, in which the edited functions have to be
 proved, or nothing counts."""
 import os
@@ -12,9 +13,10 @@ import tempfile
 import time
 
 from edit import applied
-from room import CALLED, Room, goals_in, judged, judged_error, judged_whole, listing
+from planting import Planting
+from room import CALLED, Room, goals_in, is_misread, judged, judged_error, judged_whole, linked, listing
 
-MOST = 20  # edits in a round
+MOST = 40  # edits in a round
 VERDICTS = ("refused", "names", "unread", "doubt", "proved")
 OPEN = ("doubt", "proved")  # of these an edit is tried again
 
@@ -65,12 +67,15 @@ class Trying:
     def __init__(self, crate, edits, reach, room, say, log):
         self.crate, self.edits, self.room, self.say, self.log = crate, edits, room, say, log
         self.texts = {path: text for it in edits for path, text in it.texts.items()}
-        self.rounds, self.wholes, self.tried = Rounds(reach), [], set()
+        self.planting, self.rounds, self.wholes, self.tried = Planting(crate), Rounds(reach), [], set()
 
     def run(self):
         began = time.monotonic()
         many = [it for it in self.edits if it.symbols and not it.verdict]
         self.wholes = [it for it in self.edits if not it.symbols and not it.verdict]
+        for at in range(0, len(many), MOST):
+            self.in_copies(many[at : at + MOST])
+        many = [it for it in many if not it.verdict]
         self.in_rounds(many)
         self.in_rounds([it for it in many if it.verdict in OPEN])
         for it in many:
@@ -89,6 +94,31 @@ class Trying:
                 it.said = f"only a proof file names what it took away: {it.said}"
         took = time.monotonic() - began
         self.say(f"{self.crate.name}: {len(self.edits)} edits in {self.room.checks} checks, {took:.0f} s")
+
+    def in_copies(self, edits):
+        """Tries edits in copies of their functions, by halves where none of them is refused: one may be
+        no code. What isn't refused has no verdict then."""
+        now, made = [], {}
+        for number, it in enumerate(edits):
+            copy = self.planting.plant(it, number, made)
+            now += [(it, copy)] if copy else []
+        if now and not self.judge_copies(now, made) and len(now) > 1:
+            self.in_copies([it for it, _ in now[: len(now) // 2]])
+            self.in_copies([it for it, _ in now[len(now) // 2 :]])
+
+    def judge_copies(self, now, made):
+        """One check of copies; how many were refused."""
+        copies = [copy for _, copy in now]
+        _, said, took = self.room.check(made, copies, self.log)
+        found = judged(said, copies, [path for path in made if not path.startswith("proofs/")])
+        for it, copy in now:
+            goals = goals_in(said, [copy])
+            if found[copy][0] == "refused" and goals and not is_misread(said, copy):
+                it.verdict, it.said = found[copy]
+                it.goals = {(it.symbols[0], goal) for _, goal in goals}
+        refused = sum(it.verdict == "refused" for it, _ in now)
+        self.say(f"{self.crate.name}: a round of {len(now)} copies, {refused} refused, {took:.0f} s")
+        return refused
 
     def in_rounds(self, edits):
         """Tries edits in rounds, but for a round that was tried before."""
@@ -136,12 +166,15 @@ def in_room(crate, rlibs, seed, work):
         shutil.rmtree(temp, ignore_errors=True)
 
 
-def make_seed(crate, edits, rlibs, seed, say, log):
+def make_seed(crate, edits, rlibs, seed, begun, say, log):
     """Proves without an edit what these of a crate change: the functions, or all where one changes
-    more. Gives what tells whether the seed is touched, or nothing where it isn't proved; and what was said."""
+    more; over what another check kept, if there is a folder of one. Gives what tells whether the seed
+    is touched, or nothing where it isn't proved; and what was said."""
     wholes = [it for it in edits if not it.symbols and not it.errors and not it.verdict]
     only = [] if wholes else sorted({symbol for it in edits for symbol in it.symbols})
-    status, said, took = in_room(crate, rlibs, seed, lambda room: room.check({}, only, log))
+    if begun:
+        linked(begun, seed)
+    status, said, took = in_room(crate, rlibs, seed, lambda room: room.check({}, only, log, makes_seed=True))
     why = (said.strip().splitlines() or [""])[-1]
     say(f"{crate.name}: without an edit, status {status}, {took:.0f} s: {why}")
     return None if status else listing(seed), why

@@ -27,10 +27,11 @@ class Clause:
 
     def __init__(self, found, row, above):
         self.kind, self.name, self.row, self.lines = found[1], found[2] or "", row, above
-        self.depth = 0
+        self.depth = self.height = 0
 
     def add(self, line):
         self.lines.append(line)
+        self.height += 1
         self.depth += line.count("{") - line.count("}")
 
     def is_called(self, name):
@@ -115,12 +116,18 @@ def functions_of(crate):
     """All functions of a crate but those of its tests, in the order of its files."""
     found = []
     for path in crate.files(".rt"):
-        lines, code, block = crate.text(path).split("\n"), code_of(crate.text(path)).split("\n"), ""
-        for row, line in enumerate(lines):
-            if BLOCK.match(line):
-                block = line
-            if FUNCTION.match(line):
-                found.append(Function(crate, path, lines, code, row, block))
+        found += functions_in(crate, path, crate.text(path))
+    return found
+
+
+def functions_in(crate, path, text):
+    """The functions of a file with this text."""
+    lines, code, found, block = text.split("\n"), code_of(text).split("\n"), [], ""
+    for row, line in enumerate(lines):
+        if BLOCK.match(line):
+            block = line
+        if FUNCTION.match(line):
+            found.append(Function(crate, path, lines, code, row, block))
     return found
 
 
