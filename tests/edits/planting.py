@@ -89,21 +89,31 @@ def narrowed(parts, path, own, breaks):
     if not breaks or len(clauses) < 3 or not all(it.name for it in clauses):
         return parts
     clauses.sort(key=lambda it: (it.name != breaks, it.height, len(it.lines[-1])))
-    for it in sorted(clauses[2:], key=lambda it: -it.row):
-        del lines[it.row : it.row + it.height]
-    kept = {it.name for it in clauses[:2]}
-    answers = {it: answers_for(text, kept) for it, text in parts.items() if it.endswith("/Answers.antt")}
-    return parts if None in answers.values() else {**parts, **answers, path: "\n".join(lines)}
+    proofs = {it: items_of(text) for it, text in parts.items() if it.endswith("/Answers.antt")}
+    if any(clause == "" for items in proofs.values() for _, clause, _ in items):
+        return parts
+    kept = with_cited({it.name for it in clauses[:2]}, [it for items in proofs.values() for it in items])
+    for it in sorted(clauses, key=lambda it: -it.row):
+        if it.name not in kept:
+            del lines[it.row : it.row + it.height]
+    answers = {it: [text for _, of, text in items if of is None or of in kept] for it, items in proofs.items()}
+    return {**parts, **{it: "\n\n".join(texts) for it, texts in answers.items()}, path: "\n".join(lines)}
 
 
-def answers_for(text, kept):
-    """The answers but those for clauses that aren't kept; none where one is for all clauses."""
+def items_of(text):
+    """What stands in a file of answers, each with its name and the clause that it is for: none where it
+    is no answer of what the function returns, '' where it is for all clauses."""
     found = []
     for part in re.split(r"\n\n(?! )", text):
-        at = ANSWER.match(part)
-        of = at and OF_CLAUSE.search(at[1])
-        if at and not of:
-            return None
-        if not of or of[1] in kept:
-            found.append(part)
-    return "\n\n".join(found)
+        name = (ANSWER.match(part) or [None, None])[1]
+        of = name and OF_CLAUSE.search(name)
+        found.append((name, of[1] if of else name and "", part))
+    return found
+
+
+def with_cited(kept, items):
+    """These clauses, and those whose answers are cited by what stays."""
+    left = [it for it in items if it[1] and it[1] not in kept]
+    stays = "".join(text for _, of, text in items if of is None or of in kept)
+    cited = {of for name, of, _ in left if re.search(rf"(?<![\w-]){name}(?![\w-])", stays)}
+    return with_cited(kept | cited, items) if cited else kept

@@ -152,7 +152,7 @@ def goals_in(said, symbols=None):
             notes += re.findall(r"`(\S+?)`", unfound[1]) if unfound else []
             found |= {(it, clause_of(goal)) for it in symbols if at[1].endswith(f"::{it}") for goal in notes}
             notes = []
-        elif at := PROOF.match(line):
+        elif (at := PROOF.match(line)) and not NAMES.search(line):
             goal = IN_PROOF.search(line)
             found |= {(it, clause_of(goal[1])) for it in symbols if goal and f"/{it.replace('::', '/')}/" in f"/{at[1]}"}
     return found
