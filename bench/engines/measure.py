@@ -272,6 +272,7 @@ def main():
                 print_line(**cell._asdict(), cache=cache, **recorded.shares())
     for engine in CACHES if asked.wants("table", "rates") else ():
         if asked.wants("engine", engine):
+            os.makedirs(built("data"), exist_ok=True)
             words = [built("rates"), engine, built(f"data/{engine}-rates"), 4]
             print(ran([*words, *asked.caches(engine)]), end="", flush=True)
     note(f"all, after {(time.time() - start) / 60:.1f} minutes")

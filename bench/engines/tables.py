@@ -147,17 +147,23 @@ def print_rates(_, rates, __):
         print(f"| {law} | {percent} % | {' | '.join(row)} |")
 
 
+def span(numbers):
+    return f"{min(numbers):+.2f} to {max(numbers):+.2f}"
+
+
 def print_distances(rates):
-    """How far what was measured by skewed laws is from the guide's."""
+    """How far what was measured is from the guide's, by skewed laws and by the others."""
     cells, columns = cells_of(rates)
-    skewed = list(dict.fromkeys(law for law, _ in cells))[:SKEWED]
-    rows = dict(zip(skewed, guide()))
+    laws = list(dict.fromkeys(law for law, _ in cells))
+    rows = dict(zip(laws, guide()))
     for engine, cache in columns:
-        name = IN_GUIDE[cache]
-        off = [of[engine, cache] - rows[law][name][percent]
-               for (law, percent), of in cells.items() if law in rows and (engine, cache) in of]
-        print(f"{ENGINES[engine]} with {NAMES[cache]}: by skewed laws {min(off):+.2f} to "
-              f"{max(off):+.2f} points from the guide's hit rates")
+        off = defaultdict(list)
+        for (law, percent), of in cells.items():
+            if (engine, cache) in of:
+                inside = of[engine, cache] - rows[law][IN_GUIDE[cache]][percent]
+                off[law in laws[:SKEWED]].append(inside)
+        print(f"{ENGINES[engine]} with {NAMES[cache]}: by skewed laws {span(off[True])}, by others "
+              f"{span(off[False])} points from the guide's hit rates")
 
 
 # ---- All of it -----------------------------------------------------------------------------------
@@ -186,8 +192,9 @@ def print_all(runs, rates, machines):
         print()
         print_distances(rates)
     for it in machines:
+        rounds = f"{it['rounds']} rounds of {it['seconds']} s: " if runs else ""
         of = ", ".join(f"{name} {value}" for name, value in it["machine"].items())
-        print(f"\n{it['rounds']} rounds of {it['seconds']} s: {of}")
+        print(f"\n{rounds}{of}")
 
 
 PRINTERS = {"--speeds": print_speeds, "--rates": print_rates, "--medians": print_medians}
