@@ -118,6 +118,10 @@ done
 expect "a file that isn't there" 3 "file 0: unreadable" $nothing blocks "$folder/none" "$forty"
 expect "a folder" 3 "file 1: unreadable" $nothing blocks "$forty" "$folder" "$folder/none"
 
+many=()
+for _ in {0..256}; do many+=("$forty"); done
+expect "a file behind 257" 3 "file 257: unreadable" $nothing blocks "${many[@]}" "$folder/none"
+
 # Texts at fault.
 faulty=(blocks --clients 2 "$forty")
 faults "line 2: Unended" '0 0 0\n1 0 0'
@@ -151,22 +155,26 @@ judge "in $took seconds"
 echo >> "$folder/input"
 expect "2^26 bytes and one" 2 "input too large" $nothing blocks --clients 1024 --handles 1
 
-# How far a long play is, told on a terminal alone: 2^20 reads and one more, and a short play.
+# How far a long play is, told on a terminal alone: after each 2^20 reads of all clients. A short
+# play tells nothing: terminal FILE WORD..
 terminal() {
     PROGRAM=$program python3 -c '
 import os, pty, subprocess, sys
 ours, theirs = pty.openpty()
-subprocess.run([os.environ["PROGRAM"], "blocks"], stdin=open(sys.argv[1]), stderr=theirs,
-               stdout=subprocess.DEVNULL, check=True, timeout=60)
+subprocess.run([os.environ["PROGRAM"], "blocks", *sys.argv[2:]], stdin=open(sys.argv[1]),
+               stderr=theirs, stdout=subprocess.DEVNULL, check=True, timeout=60)
 os.write(theirs, b".")
 told = b""
 while not told.endswith(b"."):
     told += os.read(ours, 1000)
-print(repr(told))' "$1"
+print(repr(told))' "$@"
 }
-yes "0 0 0" | head -n 1048577 > "$folder/long"
-[[ $(terminal "$folder/long") == "b'\\r1048576 reads\\r\\n.'" ]]
+yes "0 0 0" | head -n 2097153 > "$folder/long"
+[[ $(terminal "$folder/long") == "b'\\r1048576 reads\\r2097152 reads\\r\\n.'" ]]
 judge "a long play on a terminal"
+yes $'0 0 0\n1 0 0' | head -n 1048576 > "$folder/two"
+[[ $(terminal "$folder/two" --clients 2) == "b'\\r1048576 reads\\r\\n.'" ]]
+judge "a long play of two clients on a terminal"
 trace "$first"
 [[ $(terminal "$folder/input") == "b'.'" ]]
 judge "a short play on a terminal"
@@ -178,10 +186,12 @@ trace "$first"
 devices blocks "$forty"
 timeout 60 cat "$folder/input" | "$program" blocks "$forty" | cmp -s - <(echo "$told")
 judge "pipes at both ends"
-head -c 16777216 /dev/zero > "$folder/large"
+{ head -c 16777216 /dev/zero; printf '\1\1\1'; } > "$folder/large"
 (ulimit -v 12288; exec timeout 60 "$program" blocks "$folder/large") < "$folder/input" \
     > "$folder/out" 2> "$folder/err"
 [[ $? == 5 && ! -s $folder/out ]] && said "out of memory"
 judge "too little memory for a file"
+trace '0 0 1048575\n0 0 1048576\n0 0 1048577\n'
+expect "the end of a large file" 0 "" <(report 2 0 2 1 3 19 2) blocks "$folder/large"
 
 counted blocks

@@ -51,6 +51,7 @@ typed "a trace" "0 reads a trace of calls $behind" run
 typed "block reads" "0 reads a trace of block reads $behind" blocks
 typed "a trace, refused" "4 refused BadSlots" run --slots 12
 typed "block reads, refused" "4 refused BadBlock" blocks --block 0
+typed "block reads, no file" "3 file 0: unreadable" blocks "$folder/none"
 
 # Sees that a command's help has a line for each word, in place of @: helps COMMAND PATTERN WORD..
 helps() {
@@ -73,15 +74,22 @@ play 'start 2\nstart 3\n' "ok$empty 0 0 0 0\nrefused NoSuchClient$empty 0 0 0 0\
 play 'start 1\n' "refused NoSuchClient$empty 0 0 0 0\n" core --clients 1
 play 'look 0 1\n' "refused NoSuchSlot : E+0/0 | 0 0 0 0\n" core --slots 1
 play 'start 0\n' "ok : E+0/0 E+0/0 E+0/0 | 0 0 0 0\n" core --slots 3
+play 'start 0\n' "ok :$(printf ' E+0/0%.0s' {1..16}) | 0 0 0 0\n" core --slots 16
 play 'start 0\n' "ok : E+0/0 | 0 0 0 0\n" core --slots=1 --clients=1024 --capacity=1099511627776 --strict
 play 'start 0\nstart 1\ncharge 0 60\ncharge 1 60\n' \
     "ok$empty 0 0 0 0\nok$empty 0 0 0 0\nsplit 60 0$empty 60 0 0 0\nsplit 40 20$empty 120 0 0 0\n" \
     core --strict --capacity 100
 play 'start 0\ncharge 0 601\n' "ok$empty 0 0 0 0\nsplit 600 1$empty 601 0 0 0\n" core --strict
 play 'start 0\ncharge 0 601\n' "ok$empty 0 0 0 0\nsplit 7 594$empty 601 0 0 0\n" core --strict --capacity 7
+play "show 0 1 2 3 1 - $(printf '00%.0s' {1..64})\n" "refused NotAllowed$empty 0 0 0 0\n" core
 helps core '(^|   *)@ [c0-9]' start end look acquire give use occupy show hide free empty clock \
     mark correct write read peek count pass unpass charge settle waive usage enter slots quit occupancy \
     stand fall standing turn
+
+helps core '^ +--@ \[' "slots .* 1 to 16" "clients .* 1 to 1024" "capacity .* 0 to 1099511627776"
+helps run '^ +--@ \[' "slots .* 8 to 65536" "room .* 1 to 512" "clients .* 1 to 1024" \
+    "handles .* 1 to 16384" "shards .* 1 to 64" "capacity .* 0 to 1099511627776" \
+    "serials .* 1 to 18014398509481984"
 
 # Texts at fault.
 faulty=(core)
@@ -109,6 +117,11 @@ for client in {0..1023}; do echo "$client P 16383 0 1 1 L -"; done >> "$folder/i
     | sed -E 's/^(placed|standalone)$/filled/' | sort | uniq -c | awk '{ print $1, $2 }') == \
     "1024 busy"$'\n'"1024 filled"$'\n'"1024 miss"$'\n'"1 {"* ]]
 judge "1,024 clients whose last register is named and filled, in 64 MiB"
+
+# What is written takes no memory: the lines of 2^20 events, 43 bytes each, in 64 MiB.
+for _ in {1..1024}; do echo "$block"; done > "$folder/input"
+[[ $(ulimit -v 65536; "$program" core < "$folder/input" | wc -l) == 1048576 ]]
+judge "2^20 events in 64 MiB"
 
 # Traces of calls with their answers, and examples.
 for trace in examples/*.trace; do
