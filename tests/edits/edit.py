@@ -3,9 +3,9 @@
 It has lines 'file: PATH', and pairs of lines 'old: TEXT' and 'new: TEXT', each text in its file once.
 must-fail/ has a file for each, as rt reads them, named FILE.FUNCTION.WHAT.edit. edits/ has a file for
 each file of code: a line 'file: PATH', and behind it the edits, each under a line 'edit:
-FUNCTION.WHAT'. There may stand 'breaks: GOAL', which is all that the edit is tried against; and where
-the compiler has to refuse it, 'error: TEXT' with text of its error. The crate's files are in rt fmt's layout: the first line of an item and its last have one
-indent."""
+FUNCTION.WHAT'. There may stand 'breaks: GOAL', with a clause that it breaks or what else has to hold
+there; and where the compiler has to refuse it, 'error: TEXT' with text of its error. The crate's files
+are in rt fmt's layout: the first line of an item and its last have one indent."""
 import glob
 import os
 import re

@@ -8,11 +8,9 @@ single clause its goals would have other names, which proofs cite.)"""
 import os
 import re
 
-from crates import FUNCTION
-from functions import BLOCK, code_of, contract_at, functions_in, rows_of_body
+from functions import functions_of
 
-ANSWER = re.compile(r"(?:abbrev )?pub (returns[\w-]*) : ")
-OF_CLAUSE = re.compile(r"-clause-(\w+)$")
+ANSWER = re.compile(r"(?:abbrev )?pub (returns[\w-]*?(?:-clause-(\w+))?) : ")
 MODULES = re.compile(r"\.proofs\.([\w.+]+)\.(?!Met\b)(?:[A-Z]\w*|\{)")
 
 
@@ -21,6 +19,7 @@ class Planting:
 
     def __init__(self, crate):
         self.crate, self.files, self.named = crate, {}, {}
+        self.functions = {(it.path, it.symbol): it for it in reversed(functions_of(crate))}
         for path in crate.files(".antt"):
             self.files.setdefault(os.path.dirname(path), []).append(path)
             for name in MODULES.findall(crate.text(path)):
@@ -46,56 +45,57 @@ class Planting:
         if len(edit.symbols) != 1 or edit.errors:
             return None
         [symbol], path = edit.symbols, edit.pairs[0][0]
-        folder, whole = self.proof_of(symbol), whole_of(symbol, self.crate, path, edit.texts[path])
-        if folder is None or whole is None:
+        folder, function = self.proof_of(symbol), self.functions.get((path, symbol))
+        if folder is None or not function or not can_stand_twice(function):
             return None
+        first, whole = whole_of(function, edit.texts[path].split("\n"))
         parts = {it: self.crate.text(it) for it in self.files.get(folder, ())} | {path: whole}
         for at, old, new in edit.pairs:
             if parts.get(at, "").count(old) != 1:
                 return None
             parts[at] = parts[at].replace(old, new)
-        own = symbol.rpartition("::")[2]
-        name, parts = f"{own}_edit_{number}", narrowed(parts, path, own, edit.breaks)
-        copy = re.sub(rf"\bfn {own}\b", f"fn {name}", parts.pop(path))
+        parts = narrowed(parts, path, function, first, edit.breaks)
+        name = f"{function.name}_edit_{number}"
+        copy = re.sub(rf"\bfn {function.name}\b", f"fn {name}", parts.pop(path))
         texts[path] = texts.get(path, edit.texts[path]).replace(whole, f"{whole}\n\n{copy}")
         to = f"{os.path.dirname(folder)}/{name}"
+        modules = [f".{it.replace('/', '.')}." for it in (folder, to)]
         for it, text in parts.items():
-            modules = [f"{of[7:].replace('/', '.')}." for of in (folder, to)]
-            texts[it.replace(folder, to)] = text.replace(*(f".proofs.{it}" for it in modules))
+            texts[it.replace(folder, to)] = text.replace(*modules)
         return f"{symbol.rpartition('::')[0]}::{name}".removeprefix("::")
 
 
-def whole_of(symbol, crate, path, text):
-    """A function's text, with what stands above it; none where it is of a trait's impl, or calls itself."""
-    lines, code = text.split("\n"), code_of(text).split("\n")
-    of = next((it for it in functions_in(crate, path, text) if it.symbol == symbol), None)
-    head = next((it for it in lines[of.row :: -1] if BLOCK.match(it)), "") if of and of.indent else ""
-    calls_itself = rf"(?<![.:\w]){'[Ss]elf(?:[.]|::)' if head else ''}{of.name}\(" if of else ""
-    if not of or of.is_of_trait or " for " in head or re.search(calls_itself, of.body):
-        return None
-    first, last = of.row, rows_of_body(code, of.row, of.indent)[1]
+def can_stand_twice(function):
+    """Whether a copy is as good as the function: not if it is of a trait or its impl, or calls itself."""
+    calls_itself = rf"(?<![.:\w]){'[Ss]elf(?:[.]|::)' if function.block else ''}{function.name}\("
+    is_of_trait = function.is_of_trait or " for " in function.block
+    return not is_of_trait and not re.search(calls_itself, function.body)
+
+
+def whole_of(function, lines):
+    """The row on which a function begins, with what stands above it, and its text."""
+    first = function.row
     while lines[first - 1].strip().startswith(("#[", "//")):
         first -= 1
-    return "\n".join(lines[first : last + 1])
+    return first, "\n".join(lines[first : function.end + 1])
 
 
-def narrowed(parts, path, own, breaks):
-    """A function's text and its proof with the clause that it breaks, or none where that is no clause,
-    and the shortest other one; as they are where the edit says nothing, or one answer is for all."""
-    lines = parts[path].split("\n")
-    row = next(at for at, line in enumerate(lines) if (found := FUNCTION.match(line)) and found[2] == own)
-    indent = FUNCTION.match(lines[row])[1]
-    clauses = [it for it in contract_at(lines, row, indent)[1] if it.kind == "ensures"]
+def narrowed(parts, path, function, first, breaks):
+    """A function's text, from its first row on, and its proof with the clause that it breaks, or none
+    where that is no clause, and the shortest other one; as they are where the edit says nothing, or one
+    answer is for all."""
+    clauses = [it for it in function.clauses if it.kind == "ensures"]
     if not breaks or len(clauses) < 3 or not all(it.name for it in clauses):
         return parts
-    clauses.sort(key=lambda it: (it.name != breaks, it.height, len(it.lines[-1])))
     proofs = {it: items_of(text) for it, text in parts.items() if it.endswith("/Answers.antt")}
     if any(clause == "" for items in proofs.values() for _, clause, _ in items):
         return parts
-    kept = with_cited({it.name for it in clauses[:2]}, [it for items in proofs.values() for it in items])
-    for it in sorted(clauses, key=lambda it: -it.row):
+    by_size = sorted(clauses, key=lambda it: (it.name != breaks, it.height, len(it.lines[-1])))
+    kept = with_cited({it.name for it in by_size[:2]}, [it for items in proofs.values() for it in items])
+    lines = parts[path].split("\n")
+    for it in reversed(clauses):
         if it.name not in kept:
-            del lines[it.row : it.row + it.height]
+            del lines[it.row - first : it.row - first + it.height]
     answers = {it: [text for _, of, text in items if of is None or of in kept] for it, items in proofs.items()}
     return {**parts, **{it: "\n\n".join(texts) for it, texts in answers.items()}, path: "\n".join(lines)}
 
@@ -103,12 +103,8 @@ def narrowed(parts, path, own, breaks):
 def items_of(text):
     """What stands in a file of answers, each with its name and the clause that it is for: none where it
     is no answer of what the function returns, '' where it is for all clauses."""
-    found = []
-    for part in re.split(r"\n\n(?! )", text):
-        name = (ANSWER.match(part) or [None, None])[1]
-        of = name and OF_CLAUSE.search(name)
-        found.append((name, of[1] if of else name and "", part))
-    return found
+    parts = [(ANSWER.match(it), it) for it in re.split(r"\n\n(?! )", text)]
+    return [(at[1], at[2] or "", it) if at else (None, None, it) for at, it in parts]
 
 
 def with_cited(kept, items):

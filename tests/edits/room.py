@@ -94,10 +94,15 @@ def is_unread(line, changed):
     return not at[2] or bool(UNREAD.search(re.sub(r"`[^`]*`", "", at[3])))
 
 
+def errors_in(symbol, lines):
+    """The errors in a function's own proof."""
+    folder = f"/{symbol.replace('::', '/')}/"
+    return [it for it in lines if (at := PROOF.match(it)) and folder in f"/{at[1]}"]
+
+
 def is_misread(said, symbol):
     """Whether a function's proof can't be read as one: an error there is of no goal."""
-    errors = [it for it in said.split("\n") if (at := PROOF.match(it)) and f"/{symbol.replace('::', '/')}/" in f"/{at[1]}"]
-    return any(not OF_GOAL.search(it) for it in errors)
+    return not all(OF_GOAL.search(it) for it in errors_in(symbol, said.split("\n")))
 
 
 def judged(said, symbols, changed):
@@ -125,8 +130,7 @@ def judged(said, symbols, changed):
 
 def judged_alone(symbol, line, ended, notes, lines):
     """What the lines on one function say of it."""
-    folder = f"/{symbol.replace('::', '/')}/"
-    errors = [it for it in lines if (at := PROOF.match(it)) and folder in f"/{at[1]}"]
+    errors = errors_in(symbol, lines)
     goals = [it for it in notes if GOAL.match(it)]
     goals.sort(key=lambda it: "requires holds at this call" in it)
     own = [*goals, *(it for it in errors if not NAMES.search(it))]
@@ -142,9 +146,9 @@ def judged_alone(symbol, line, ended, notes, lines):
 def goals_in(said, symbols=None):
     """The goals of these functions, or of all, that a check left unproved: of each its function and its
     clause, or what else had to hold there."""
-    found, notes = set(), []
+    found, notes, lines = set(), [], said.split("\n")
     symbols = symbols or [it.partition("::")[2] for it in re.findall(r"^fn (\S+): ", said, re.M)]
-    for line in said.split("\n"):
+    for line in lines:
         notes += NAMED.findall(line) if GOAL.match(line) else []
         at = FUNCTION.match(line)
         if at:
@@ -152,9 +156,9 @@ def goals_in(said, symbols=None):
             notes += re.findall(r"`(\S+?)`", unfound[1]) if unfound else []
             found |= {(it, clause_of(goal)) for it in symbols if at[1].endswith(f"::{it}") for goal in notes}
             notes = []
-        elif (at := PROOF.match(line)) and not NAMES.search(line):
-            goal = IN_PROOF.search(line)
-            found |= {(it, clause_of(goal[1])) for it in symbols if goal and f"/{it.replace('::', '/')}/" in f"/{at[1]}"}
+    for it in symbols:
+        told = (IN_PROOF.search(line) for line in errors_in(it, lines) if not NAMES.search(line))
+        found |= {(it, clause_of(goal[1])) for goal in told if goal}
     return found
 
 

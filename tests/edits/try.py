@@ -34,12 +34,12 @@ from room import listing
 from trying import make_seed, try_edits
 
 PAUSE = 2  # seconds between two looks at a log
-PART = 40  # the most edits of a crate that a lane takes at once
+PART = 40  # the most edits of a crate that a lane takes at once, and so in a check
 
 
-def parts(edits, most):
+def parts(edits):
     """A crate's edits in equal parts, each with some of each function's: they come in its order."""
-    many = -(-len(edits) // most)
+    many = -(-len(edits) // PART)
     return [edits[at::many] for at in range(many)]
 
 
@@ -105,10 +105,10 @@ class Seeds:
         """The folder of a crate's seed, made if it isn't there; None where it isn't proved."""
         seed, rlibs = self.folder_of(name), self.libraries.folder
         if name not in self.made:
-            own, begun = [it for it in self.edits if it.crate == name], self.libraries.begun(self.crates[name])
+            crate, own = self.crates[name], [it for it in self.edits if it.crate == name]
             try:
-                begun = begun if begun and os.path.isdir(begun) else None
-                made = make_seed(self.crates[name], own, rlibs, seed, begun, self.say, self.log)
+                begun = self.libraries.begun(crate)
+                made = make_seed(crate, own, rlibs, seed, begun, self.say, self.log)
                 self.made[name], self.why[name] = made
             finally:
                 self.making.discard(name)
@@ -137,7 +137,7 @@ class Lanes:
         of = [[it for it in edits if it.crate == name] for name in crates]
         if end:
             of = [sorted(it, key=lambda edit: drawn(edit.key)) for it in of]
-        self.left = [part for it in of for part in parts(it, PART)]
+        self.left = [part for it in of for part in parts(it)]
         weight = lambda part: -len(part) * (1 + len(crates[part[0].crate].below))
         self.left.sort(key=lambda part: drawn(part[0].key) if end else weight(part))
         self.taking = threading.Lock()

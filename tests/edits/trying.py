@@ -14,9 +14,10 @@ import time
 
 from edit import applied
 from planting import Planting
-from room import CALLED, Room, goals_in, is_misread, judged, judged_error, judged_whole, linked, listing
+from room import (
+    CALLED, Room, goals_in, is_misread, judged, judged_error, judged_whole, linked, listing
+)
 
-MOST = 40  # edits in a round
 VERDICTS = ("refused", "names", "unread", "doubt", "proved")
 OPEN = ("doubt", "proved")  # of these an edit is tried again
 
@@ -49,7 +50,7 @@ class Rounds:
             left.sort(key=lambda it: -count[it.symbols[0]])
             now, rest, made = [], [], dict(texts)
             for it in left:
-                clash = len(now) == MOST or any(self.clash(it, other) for other in now)
+                clash = any(self.clash(it, other) for other in now)
                 tried = None if clash else applied(it.pairs, made)
                 if tried is None:
                     rest.append(it)
@@ -73,8 +74,7 @@ class Trying:
         began = time.monotonic()
         many = [it for it in self.edits if it.symbols and not it.verdict]
         self.wholes = [it for it in self.edits if not it.symbols and not it.verdict]
-        for at in range(0, len(many), MOST):
-            self.in_copies(many[at : at + MOST])
+        self.in_copies(many)
         many = [it for it in many if not it.verdict]
         self.in_rounds(many)
         self.in_rounds([it for it in many if it.verdict in OPEN])
@@ -172,7 +172,7 @@ def make_seed(crate, edits, rlibs, seed, begun, say, log):
     is touched, or nothing where it isn't proved; and what was said."""
     wholes = [it for it in edits if not it.symbols and not it.errors and not it.verdict]
     only = [] if wholes else sorted({symbol for it in edits for symbol in it.symbols})
-    if begun:
+    if begun and os.path.isdir(begun):
         linked(begun, seed)
     status, said, took = in_room(crate, rlibs, seed, lambda room: room.check({}, only, log, makes_seed=True))
     why = (said.strip().splitlines() or [""])[-1]

@@ -50,7 +50,7 @@ class Function:
         found = FUNCTION.match(lines[row])
         self.crate, self.path, self.row, self.indent = crate.name, path, row, found[1]
         trait = TRAIT.match(block) if found[1] else None
-        self.is_of_trait = bool(trait)
+        self.is_of_trait, self.block = bool(trait), block if found[1] else ""
         self.owner = (trait[1] if trait else owner_in(block) or "") if found[1] else ""
         # A call may be by the type, or by the trait that it is of.
         self.owners = {self.owner, *re.findall(r"\w+", block)} if found[1] else set()
@@ -62,8 +62,8 @@ class Function:
         self.is_export = row > 0 and "no_mangle" in lines[row - 1]
         self.docs = docs_above(lines, row)
         self.signature, self.clauses = contract_at(lines, row, found[1])
-        opens, end = rows_of_body(code, row, found[1])
-        self.body = "\n".join(code[opens + 1 : end]) if opens < end else code[opens]
+        opens, self.end = rows_of_body(code, row, found[1])
+        self.body = "\n".join(code[opens + 1 : self.end]) if opens < self.end else code[opens]
 
     def place(self, row=None):
         """The link to a line of its file, from docs/."""
@@ -116,18 +116,12 @@ def functions_of(crate):
     """All functions of a crate but those of its tests, in the order of its files."""
     found = []
     for path in crate.files(".rt"):
-        found += functions_in(crate, path, crate.text(path))
-    return found
-
-
-def functions_in(crate, path, text):
-    """The functions of a file with this text."""
-    lines, code, found, block = text.split("\n"), code_of(text).split("\n"), [], ""
-    for row, line in enumerate(lines):
-        if BLOCK.match(line):
-            block = line
-        if FUNCTION.match(line):
-            found.append(Function(crate, path, lines, code, row, block))
+        lines, code, block = crate.text(path).split("\n"), code_of(crate.text(path)).split("\n"), ""
+        for row, line in enumerate(lines):
+            if BLOCK.match(line):
+                block = line
+            if FUNCTION.match(line):
+                found.append(Function(crate, path, lines, code, row, block))
     return found
 
 
