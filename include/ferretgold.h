@@ -117,7 +117,7 @@ extern "C" {
 /* What a call returns. */
 typedef enum ferretgold_status {
     FERRETGOLD_OK = 0,
-    /* Nothing of the key was found, or the slot of a closed cache has no entry. */
+    /* Nothing of the key was found, the slot has no entry, or a walk is at its end. */
     FERRETGOLD_MISS = 1,
 
     /* A pointer is null that may not be. */
@@ -212,8 +212,8 @@ typedef struct ferretgold_config {
     uint16_t size;     /* of this struct in bytes, as FERRETGOLD_CONFIG has it: a library that knows
                           fewer fields refuses it; 0 stands for 48 */
     uint64_t capacity; /* in charges, at most 2^40; each shard has an equal part, rounded up */
-    uint64_t serials;  /* of each client: 1 to 2^54; an insertion uses one, and so does a handle
-                          that ferretgold_lookup or ferretgold_reref gives */
+    uint64_t serials;  /* of each client: 1 to 2^54; an insertion uses one, and so does a handle that
+                          ferretgold_lookup, ferretgold_reref or ferretgold_pin_at gives */
     uint64_t seed;     /* of the keys; 0: opening draws one, so that nobody knows it.
                           FERRETGOLD_UNSEEDED only if keys are spread already, as hashes are: keys
                           of blocks, say, are found five to twenty times slower so */
@@ -560,6 +560,29 @@ FERRETGOLD_INLINE ferretgold_status ferretgold_read_value(ferretgold_client *cli
                                                           ferretgold_handle handle, void *buffer,
                                                           size_t capacity, size_t *length);
 
+/* What a reading of a part gave: how many bytes are at the front of the buffer, and how many the
+ * whole value has. */
+typedef struct ferretgold_part {
+    size_t given;
+    size_t length;
+} ferretgold_part;
+
+/*
+ * Copies bytes of the value, from an offset on, to the front of a buffer of `capacity` bytes: as many
+ * as there are behind the offset, and as it has room for. Where the offset is at the value's end, or
+ * past it, there are none. The rest of the buffer stays. `buffer` may be null if `capacity` is 0, and
+ * `part` may be null.
+ *
+ * Costs a load for the length, and one for each word of eight bytes that has some of these; of a
+ * standalone entry a copy. Bound: W + 1.
+ *
+ * Refuses NO_HANDLE.
+ */
+FERRETGOLD_INLINE ferretgold_status ferretgold_read_part(ferretgold_client *client,
+                                                         ferretgold_handle handle, size_t offset,
+                                                         void *buffer, size_t capacity,
+                                                         ferretgold_part *part);
+
 /*
  * Reads the value of a visible entry of the key: what ferretgold_lookup, ferretgold_read_value and
  * ferretgold_release do together, in one call and with no handle. The value is copied to the front
@@ -582,6 +605,65 @@ FERRETGOLD_INLINE ferretgold_status ferretgold_read_value(ferretgold_client *cli
 FERRETGOLD_INLINE ferretgold_status ferretgold_get(ferretgold_client *client,
                                                    const ferretgold_key *key, void *buffer,
                                                    size_t capacity, bool useful, size_t *length);
+
+/* ---- Walks ----------------------------------------------------------------------------------- */
+
+/* What is held at a slot: a handle on the entry there, and what its words say of it. */
+typedef struct ferretgold_held_entry {
+    ferretgold_handle handle;
+    ferretgold_key key;
+    uint64_t charge;
+    uint32_t uses; /* its countdown then */
+} ferretgold_held_entry;
+
+/*
+ * Gives a handle on the entry of a slot, if a visible one is there: for walks over a cache. MISS:
+ * there is none, or no such slot. A serial is used. Marks, hits and misses stay, and so do uses, if
+ * the handle is given back as no use.
+ *
+ * Costs a load, and where an entry is visible an add and four loads. Bound: 7.
+ *
+ * Refuses HANDLES_FULL, SPENT; also if the slot has no entry.
+ */
+ferretgold_status ferretgold_pin_at(ferretgold_client *client, uint32_t shard, uint32_t slot,
+                                    ferretgold_held_entry *held);
+
+/* Where a walk goes on: all 0 to begin one. Behind the last slot `shard` is the number of shards. */
+typedef struct ferretgold_place {
+    uint32_t shard;
+    uint32_t slot;
+} ferretgold_place;
+
+/* What a walk calls for an entry while it holds that. It may make calls on the client, as to read
+ * the value by the handle. Returns whether the walk's call goes on. */
+typedef bool ferretgold_visit(void *context, const ferretgold_held_entry *held);
+
+/*
+ * Looks at the next slots of a walk, at most so many, while other threads work with the cache, and
+ * visits each visible entry there: one that is visible from a walk's first call to its last exactly
+ * once. `place` gets where the next call goes on. Uses, marks, hits and misses stay; each entry uses
+ * a serial. OK if slots are left, also where `visit` ended the call; MISS at the end.
+ *
+ * Refuses HANDLES_FULL, SPENT, as ferretgold_pin_at does of a slot: the place is that slot's then.
+ * Costs for each slot what that costs, and a release for each entry.
+ */
+ferretgold_status ferretgold_walk(ferretgold_client *client, ferretgold_place *place,
+                                  uint64_t slots, ferretgold_visit *visit, void *context);
+
+/* Whether the entries of a key are meant. */
+typedef bool ferretgold_meant(void *context, const ferretgold_key *key);
+
+/*
+ * Erases, by ferretgold_erase, each key that a walk comes to and that is meant; all if `meant` is
+ * null. So no entry is visible at the end that was visible all the time and whose key is meant.
+ * `hidden` gets how many were hidden, also after a refusal; it may be null.
+ *
+ * Costs a walk, and an erasure for each entry that is meant.
+ *
+ * Refuses HANDLES_FULL, SPENT, as the walk does.
+ */
+ferretgold_status ferretgold_erase_where(ferretgold_client *client, ferretgold_meant *meant,
+                                         void *context, uint64_t *hidden);
 
 /* ---- Totals ---------------------------------------------------------------------------------- */
 
@@ -657,6 +739,8 @@ FERRETGOLD_SIZE_IS(ferretgold_stats, 64);
 FERRETGOLD_SIZE_IS(ferretgold_counts, 224);
 FERRETGOLD_SIZE_IS(ferretgold_totals, 32);
 FERRETGOLD_SIZE_IS(ferretgold_fit, 40);
+FERRETGOLD_SIZE_IS(ferretgold_held_entry, 56);
+FERRETGOLD_SIZE_IS(ferretgold_part, 16);
 #undef FERRETGOLD_SIZE_IS
 
 #ifndef FERRETGOLD_CHECK

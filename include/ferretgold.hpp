@@ -19,6 +19,7 @@
 #include <atomic>
 #include <cstddef>
 #include <cstdint>
+#include <memory>
 #include <new>
 #include <optional>
 #include <stdexcept>
@@ -45,6 +46,19 @@ template <typename Call> auto must(Call call) {
     return it;
 }
 #endif
+
+// How many entries a call of C's erases, which asks a function of the key what is meant. Ends the program
+// where that throws.
+template <typename Meant, typename Erase>
+std::uint64_t erased_where(Meant &meant, Erase erase) noexcept {
+    std::uint64_t hidden = 0;
+    const auto ask = [](void *it, const ferretgold_key *key) noexcept -> bool {
+        return (*static_cast<Meant *>(it))(*key);
+    };
+    const void *it = std::addressof(meant);
+    erase(ask, const_cast<void *>(it), &hidden);
+    return hidden;
+}
 
 // The version of the library.
 inline const char *version() noexcept { return ferretgold_version(); }
@@ -160,24 +174,28 @@ class shared_client {
     std::size_t users_ = 1;
 };
 
-// A handle on an entry, or none, which calls refuse by NULL. It is used on its client's thread.
+// A handle on an entry, or none, which calls refuse by NULL. It is used on its client's thread. It gives
+// itself back as a use, unless client's pin_at gave it.
 class handle {
   public:
     handle() = default;
-    handle(shared_client *client, ferretgold_handle held) noexcept : client_(client), held_(held) {
+    handle(shared_client *client, ferretgold_handle held, bool useful = true) noexcept
+        : client_(client), held_(held), useful_(useful) {
         client_->join();
     }
     handle(handle &&other) noexcept
-        : client_(std::exchange(other.client_, nullptr)), held_(other.held_) {}
+        : client_(std::exchange(other.client_, nullptr)), held_(other.held_),
+          useful_(other.useful_) {}
     handle &operator=(handle &&other) noexcept {
         if (this != &other) {
-            release();
+            release(useful_);
             client_ = std::exchange(other.client_, nullptr);
             held_ = other.held_;
+            useful_ = other.useful_;
         }
         return *this;
     }
-    ~handle() { release(); }
+    ~handle() { release(useful_); }
 
     // Whether it is on an entry.
     explicit operator bool() const noexcept { return client_ != nullptr; }
@@ -201,6 +219,15 @@ class handle {
         return length;
     }
 
+    // Copies bytes from an offset on to a buffer, as many as there are and as it has room for, and
+    // returns how many, and how many the whole value has.
+    ferretgold_part read_part(std::size_t offset, void *buffer, std::size_t capacity,
+                              ferretgold_status &why) const noexcept {
+        ferretgold_part part{};
+        why = ferretgold_read_part(raw(), held_, offset, buffer, capacity, &part);
+        return part;
+    }
+
     // One handle more on the same entry.
     handle reref(ferretgold_status &why) const noexcept {
         ferretgold_handle more{};
@@ -217,6 +244,9 @@ class handle {
     }
     std::size_t read(void *buffer, std::size_t capacity) const {
         return must([&](auto &why) { return read(buffer, capacity, why); });
+    }
+    ferretgold_part read_part(std::size_t offset, void *buffer, std::size_t capacity) const {
+        return must([&](auto &why) { return read_part(offset, buffer, capacity, why); });
     }
     handle reref() const {
         return must([&](auto &why) { return reref(why); });
@@ -243,6 +273,7 @@ class handle {
 
     shared_client *client_ = nullptr;
     ferretgold_handle held_{};
+    bool useful_ = true;
 };
 
 // A client of a cache, for one thread at a time, or none, which calls refuse by NULL. Opening one
@@ -270,6 +301,13 @@ class client {
         ferretgold_handle found{};
         why = ferretgold_lookup(get(), &key, &found);
         return why == FERRETGOLD_OK ? handle(shared_, found) : handle();
+    }
+
+    // The same of the entry of a slot, for walks over a cache; `held` gets what the entry's words say.
+    handle pin_at(std::uint32_t shard, std::uint32_t slot, ferretgold_held_entry *held,
+                  ferretgold_status &why) noexcept {
+        why = ferretgold_pin_at(get(), shard, slot, held);
+        return why == FERRETGOLD_OK ? handle(shared_, held->handle, false) : handle();
     }
 
     // Copies the value of an entry of the key to a buffer, with no handle: OK, MISS or TOO_SHORT.
@@ -300,6 +338,15 @@ class client {
         std::uint32_t hidden = 0;
         why = ferretgold_erase(get(), &key, &hidden);
         return hidden;
+    }
+
+    // Hides each entry whose key is meant, as ferretgold_erase_where does, and returns how many. Ends the
+    // program where `meant` throws.
+    template <typename Meant>
+    std::uint64_t erase_where(Meant &&meant, ferretgold_status &why) noexcept {
+        return erased_where(meant, [&](auto ask, void *it, std::uint64_t *hidden) {
+            why = ferretgold_erase_where(get(), ask, it, hidden);
+        });
     }
 
     std::uint64_t usage(ferretgold_status &why) const noexcept {
@@ -344,6 +391,9 @@ class client {
     handle lookup(const ferretgold_key &key) {
         return must([&](auto &why) { return lookup(key, why); });
     }
+    handle pin_at(std::uint32_t shard, std::uint32_t slot, ferretgold_held_entry *held) {
+        return must([&](auto &why) { return pin_at(shard, slot, held, why); });
+    }
     handle insert_pinned(const ferretgold_key &key, const void *value, std::size_t length,
                          std::uint32_t charge, ferretgold_priority priority = FERRETGOLD_LOW,
                          ferretgold_inserted *inserted = nullptr) {
@@ -353,6 +403,9 @@ class client {
     }
     std::uint32_t erase(const ferretgold_key &key) {
         return must([&](auto &why) { return erase(key, why); });
+    }
+    template <typename Meant> std::uint64_t erase_where(Meant &&meant) {
+        return must([&](auto &why) { return erase_where(meant, why); });
     }
     std::uint64_t usage() const {
         return must([&](auto &why) { return usage(why); });

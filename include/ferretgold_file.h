@@ -1,8 +1,8 @@
 /*
- * ferretgold_file.h - a cache that is closed goes to a file, and one that is opened begins with what
- * a file has; and what a cache of objects has goes to a file while it runs, and comes back by
+ * ferretgold_file.h - what a cache has goes to a file when it is closed, or while it runs, and one that
+ * is opened begins with that; of a cache of objects it goes there while it runs, and comes back by
  * insertions. It is no part of libferretgold, but of libferretgold_file.a, which is built where
- * xxhash.h is found and stands on the calls of ferretgold_closed.h, ferretgold_image.h and
+ * xxhash.h is found and stands on the calls of ferretgold.h, ferretgold_closed.h, ferretgold_image.h and
  * ferretgold_object.h.
  *
  * What is said there of objects, threads, refusals and what isn't checked holds here too.
@@ -112,6 +112,26 @@ ferretgold_file_status ferretgold_load(const ferretgold_config *config, ferretgo
                                        void *context, bool keep_front, ferretgold_cache **cache,
                                        ferretgold_loaded *loaded);
 
+/*
+ * Writes the entries that a walk over a cache finds (ferretgold_walk) to a file at `path`, while other
+ * threads work with it: each is held for as long as it is written. So the file has what was visible all
+ * the time, and is no picture of one moment: what was erased or evicted behind the walk is in it, too, and
+ * may come back: see KEYS THAT LAST. A key that was inserted anew meanwhile may be there twice.
+ * Uses stay as they are, and are written. ferretgold_load loads it. `saved` gets how many entries were
+ * written; it may be null.
+ *
+ * The file is whole or not at all: it is written at `path` with ".new" behind it first, which takes the
+ * file's place once it is on the disk. So whenever the program or the system ends, the file is that of the
+ * last call that ended well, or of the one that was ending. One call at a time may write a path.
+ *
+ * BUSY: the walk was refused by NO_CLIENT, HANDLES_FULL or SPENT. MEMORY. WRITE: also where the file
+ * couldn't take its place, or where the system didn't say that it is on the disk there. Allocates what
+ * stdio does, and the path, and needs some 5 KiB of stack. Costs a walk, and for each entry a load for
+ * each eight bytes and what a checksum and writing them cost.
+ */
+ferretgold_file_status ferretgold_dump(ferretgold_client *client, const char *path,
+                                       uint64_t *saved);
+
 /* ---- Caches of objects ----------------------------------------------------------------------- */
 
 /* How many bytes an object has in a file; UINT64_MAX leaves it out. */
@@ -164,14 +184,12 @@ ferretgold_file_status ferretgold_object_load(ferretgold_read *read, void *from,
                                               ferretgold_loaded *loaded);
 
 /*
- * Saves to a file at `path`, whole or not at all: at `path` with ".new" behind it first, which takes
- * the file's place once it is on the disk. So whenever the program or the system ends, the file is that
- * of the last call that ended well, or of the one that was ending. One call at a time may write a path.
+ * Saves to a file at `path`, whole or not at all, as ferretgold_dump does.
  *
  * What comes back from it may have been erased behind the dump: see KEYS THAT LAST.
  *
- * Returns what ferretgold_object_save does; MEMORY; WRITE also where the file couldn't take its place,
- * or where the system didn't say that it is on the disk there. Allocates what stdio does, and the path.
+ * Returns what ferretgold_object_save does; MEMORY; WRITE also where ferretgold_dump does. Allocates what
+ * that does.
  */
 ferretgold_file_status ferretgold_object_dump(ferretgold_object_cache *cache,
                                               ferretgold_object_size *size,

@@ -1,7 +1,7 @@
 // ferretgold_file.hpp - a wrapper of ferretgold_file.h for C++17: a closed cache goes to a stream or to a
-// function, and one that is opened begins with what comes from there; a cache of objects is dumped to a
-// path while it runs, and starts warm from there. What includes it is linked with libferretgold_file.a,
-// which stands before libferretgold.
+// function, and one that is opened begins with what comes from there; a cache of either kind is dumped to a
+// path while it runs, and one of objects starts warm from there. What includes it is linked with
+// libferretgold_file.a, which stands before libferretgold.
 //
 // ferretgold_file.h says what each call does, and for which keys. As in ferretgold.hpp a call has a last
 // argument `why`, which gets its status, and, where exceptions are on, a form without it, which throws a
@@ -135,6 +135,23 @@ inline void save(const closed &from, std::ostream &to, ferretgold_file_status &w
 template <typename To> void save(const closed &from, To &&to) {
     ferretgold_file_status why{};
     save(from, to, why);
+    if (why != FERRETGOLD_FILE_OK) {
+        throw file_refused(why);
+    }
+}
+#endif
+
+// ---- Dumping -----------------------------------------------------------------------------------
+
+// Dumps a cache that runs to a path, as ferretgold_dump does: a stream of that file is loaded.
+inline void dump(const client &from, const char *path, ferretgold_file_status &why) noexcept {
+    why = ferretgold_dump(from.get(), path, nullptr);
+}
+
+#ifdef __cpp_exceptions
+inline void dump(const client &from, const char *path) {
+    ferretgold_file_status why{};
+    dump(from, path, why);
     if (why != FERRETGOLD_FILE_OK) {
         throw file_refused(why);
     }

@@ -171,6 +171,25 @@ FERRETGOLD_INLINE ferretgold_status ferretgold_read_value(ferretgold_client *cli
                                           length != NULL ? length : &ignored));
 }
 
+FERRETGOLD_INLINE ferretgold_status ferretgold_read_part(ferretgold_client *client,
+                                                         ferretgold_handle handle, size_t offset,
+                                                         void *buffer, size_t capacity,
+                                                         ferretgold_part *part) {
+    ferretgold_part ignored;
+    void *bytes = buffer != NULL ? buffer : &ignored;
+    if (client == NULL || (buffer == NULL && capacity != 0)) {
+        return FERRETGOLD_NULL;
+    }
+    ferretgold_object *session = ferretgold_enter(client, __func__);
+    if (session == NULL) {
+        return FERRETGOLD_OF_VERSION(ferretgold_idle)();
+    }
+    return ferretgold_leave(
+        client, ferretgold_raw_read_part(session, &handle, offset,
+                                         FERRETGOLD_AS(uint8_t *, bytes), capacity,
+                                         part != NULL ? part : &ignored));
+}
+
 FERRETGOLD_INLINE ferretgold_status ferretgold_get(ferretgold_client *client,
                                                    const ferretgold_key *key, void *buffer,
                                                    size_t capacity, bool useful, size_t *length) {

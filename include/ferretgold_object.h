@@ -322,11 +322,8 @@ ferretgold_status ferretgold_object_client_counts(const ferretgold_object_cache 
 
 /* ---- Walks ----------------------------------------------------------------------------------- */
 
-/* Where a walk goes on: all 0 to begin one. Behind the last slot `shard` is the number of shards. */
-typedef struct ferretgold_object_place {
-    uint32_t shard;
-    uint32_t slot;
-} ferretgold_object_place;
+/* Where a walk goes on, as over a cache of bytes. */
+typedef ferretgold_place ferretgold_object_place;
 
 /* What a walk calls for an entry while it holds that. Returns whether the call goes on. */
 typedef bool ferretgold_object_visit(void *context, const ferretgold_object_handle *handle);
@@ -343,9 +340,6 @@ typedef bool ferretgold_object_visit(void *context, const ferretgold_object_hand
 ferretgold_status ferretgold_object_walk(ferretgold_object_cache *cache,
                                          ferretgold_object_place *place, uint64_t slots,
                                          ferretgold_object_visit *visit, void *context);
-
-/* Whether the entries of a key are meant. */
-typedef bool ferretgold_meant(void *context, const ferretgold_key *key);
 
 /*
  * Erases, by ferretgold_object_erase, each key that a walk comes to and that is meant; all if `meant`

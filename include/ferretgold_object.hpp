@@ -273,13 +273,9 @@ template <typename T> class object_cache {
     // Ends the program where `meant` throws.
     template <typename Meant>
     std::uint64_t erase_where(Meant &&meant, ferretgold_status &why) noexcept {
-        std::uint64_t hidden = 0;
-        const auto ask = [](void *it, const ferretgold_key *key) noexcept -> bool {
-            return (*static_cast<std::remove_reference_t<Meant> *>(it))(*key);
-        };
-        const void *it = std::addressof(meant);
-        why = ferretgold_object_erase_where(get(), ask, const_cast<void *>(it), &hidden);
-        return hidden;
+        return erased_where(meant, [&](auto ask, void *it, std::uint64_t *hidden) {
+            why = ferretgold_object_erase_where(get(), ask, it, hidden);
+        });
     }
 
     std::uint64_t usage(ferretgold_status &why) noexcept {

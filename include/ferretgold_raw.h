@@ -97,8 +97,15 @@ uint32_t ferretgold_raw_value_len(ferretgold_object *client, const ferretgold_ha
                                   size_t *length);
 uint32_t ferretgold_raw_read_value(ferretgold_object *client, const ferretgold_handle *handle,
                                    uint8_t *buffer, size_t capacity, size_t *length);
+uint32_t ferretgold_raw_read_part(ferretgold_object *client, const ferretgold_handle *handle,
+                                  size_t offset, uint8_t *buffer, size_t capacity,
+                                  ferretgold_part *part);
 uint32_t ferretgold_raw_get(ferretgold_object *client, const ferretgold_key *key, uint8_t *buffer,
                             size_t capacity, bool useful, size_t *length);
+/* Holds the entry of a slot of a shard as a look-up of its key does, and returns MISS where none is
+ * visible there, or there is no such slot. */
+uint32_t ferretgold_raw_pin_at(ferretgold_object *client, uint32_t shard, uint32_t slot,
+                               ferretgold_held_entry *held);
 uint64_t ferretgold_raw_usage(ferretgold_object *client);
 uint64_t ferretgold_raw_pinned_usage(ferretgold_object *client);
 uint64_t ferretgold_raw_occupancy(ferretgold_object *client);

@@ -13,6 +13,7 @@
 #include "closed.h"
 #include "counts.h"
 #include "opening.h"
+#include "walk.h"
 
 #include <pthread.h>
 #include <stdatomic.h>
@@ -422,6 +423,28 @@ ferretgold_status ferretgold_erase(ferretgold_client *client, const ferretgold_k
     uint32_t ignored = 0;
     return ferretgold_leave(client, ferretgold_raw_erase(&client->session, key,
                                                          hidden != NULL ? hidden : &ignored));
+}
+
+/* ---- Walks ----------------------------------------------------------------------------------- */
+
+ferretgold_status ferretgold_pin_at(ferretgold_client *client, uint32_t shard, uint32_t slot,
+                                    ferretgold_held_entry *held) {
+    if (client == NULL || held == NULL) {
+        return FERRETGOLD_NULL;
+    }
+    if (!ferretgold_enter(client, __func__)) {
+        return FERRETGOLD_NO_CLIENT;
+    }
+    return ferretgold_leave(client, ferretgold_raw_pin_at(&client->session, shard, slot, held));
+}
+
+bool client_config(ferretgold_client *client, ferretgold_config *config) {
+    const bool is_out = ferretgold_enter(client, "ferretgold_walk") != NULL;
+    if (is_out) {
+        *config = client->cache->config;
+        ferretgold_quit(client);
+    }
+    return is_out;
 }
 
 /* ---- Totals and words ------------------------------------------------------------------------ */

@@ -1,4 +1,4 @@
-/* Caches of bytes and files, over ferretgold_closed.h and ferretgold_image.h, with what files of
+/* Caches of bytes and files, over ferretgold_closed.h, ferretgold_image.h and walks, with what files of
  * objects share. It is tested, not proved. Which entries of a file come in is chosen.c's.
  *
  * An entry's checksum has its number in it, so that no two entries can change places, and the file's
@@ -124,20 +124,26 @@ static uint64_t count(ferretgold_closed *closed, const ferretgold_config *config
     return found;
 }
 
+/* Writes an entry whose value is in its place already. */
+static bool write_entry(file_entry *it, const ferretgold_entry *entry, uint64_t number,
+                        ferretgold_write *write, void *context) {
+    it->w0 = htole64(entry->key.w0);
+    it->w1 = htole64(entry->key.w1);
+    it->charge = htole32(entry->charge);
+    it->uses = htole32(entry->uses);
+    it->length = htole32((uint32_t)entry->length);
+    it->zero = 0;
+    it->sum = entry_sum(it, entry->length, number);
+    return write(context, it, HEAD + entry->length);
+}
+
 /* Writes the entry of a slot, of which this much is known. */
-static bool write_entry(ferretgold_closed *closed, uint32_t shard, uint32_t slot,
-                        const ferretgold_entry *entry, uint64_t number, ferretgold_write *write,
-                        void *context) {
+static bool write_closed(ferretgold_closed *closed, uint32_t shard, uint32_t slot,
+                         const ferretgold_entry *entry, uint64_t number, ferretgold_write *write,
+                         void *context) {
     file_entry it;
-    it.w0 = htole64(entry->key.w0);
-    it.w1 = htole64(entry->key.w1);
-    it.charge = htole32(entry->charge);
-    it.uses = htole32(entry->uses);
-    it.length = htole32((uint32_t)entry->length);
-    it.zero = 0;
     (void)ferretgold_closed_value(closed, shard, slot, it.value, MOST_VALUE, NULL);
-    it.sum = entry_sum(&it, entry->length, number);
-    return write(context, &it, HEAD + entry->length);
+    return write_entry(&it, entry, number, write, context);
 }
 
 ferretgold_file_status ferretgold_save(ferretgold_closed *closed, ferretgold_write *write,
@@ -154,12 +160,64 @@ ferretgold_file_status ferretgold_save(ferretgold_closed *closed, ferretgold_wri
     for (uint32_t shard = 0; shard < config.shards; shard++) {
         for (uint32_t slot = 0; slot < config.slots; slot++) {
             if (is_found(closed, shard, slot, &entry)
-                && !write_entry(closed, shard, slot, &entry, ++number, write, context)) {
+                && !write_closed(closed, shard, slot, &entry, ++number, write, context)) {
                 return FERRETGOLD_FILE_WRITE;
             }
         }
     }
     return FERRETGOLD_FILE_OK;
+}
+
+/* ---- Dumping --------------------------------------------------------------------------------- */
+
+/* A dump of a cache that runs. */
+typedef struct dump {
+    ferretgold_client *client;
+    FILE *to;
+    uint64_t entries; /* so far */
+    bool could;       /* whether all of them were written */
+} dump;
+
+/* Writes an entry that a walk came to. The walk doesn't tell whether it ended by that: it may be in the last slot. */
+static bool write_visited(void *to, const ferretgold_held_entry *held) {
+    dump *it = to;
+    file_entry with;
+    ferretgold_entry entry = {.key = held->key, .charge = (uint32_t)held->charge, .uses = held->uses};
+    it->could = ferretgold_read_value(it->client, held->handle, with.value, MOST_VALUE, &entry.length)
+                    == FERRETGOLD_OK
+                && write_entry(&with, &entry, it->entries + 1, file_write, it->to);
+    it->entries += it->could;
+    return it->could;
+}
+
+/* How many entries there are stands before them, and is known behind them: so the begin is written twice. */
+static ferretgold_file_status write_walked(void *of, FILE *to) {
+    dump *it = of;
+    ferretgold_place place = {0, 0};
+    it->to = to;
+    if (!file_begun(FILE_VERSION, 0, file_write, to)) {
+        return FERRETGOLD_FILE_WRITE;
+    }
+    if (ferretgold_walk(it->client, &place, UINT64_MAX, write_visited, it) > FERRETGOLD_MISS) {
+        return FERRETGOLD_FILE_BUSY;
+    }
+    return it->could && fseek(to, 0, SEEK_SET) == 0
+                   && file_begun(FILE_VERSION, it->entries, file_write, to)
+               ? FERRETGOLD_FILE_OK
+               : FERRETGOLD_FILE_WRITE;
+}
+
+ferretgold_file_status ferretgold_dump(ferretgold_client *client, const char *path,
+                                       uint64_t *saved) {
+    dump it = {client, NULL, 0, true};
+    if (client == NULL || path == NULL) {
+        return FERRETGOLD_FILE_NULL;
+    }
+    const ferretgold_file_status status = file_dumped(path, write_walked, &it);
+    if (saved != NULL && status == FERRETGOLD_FILE_OK) {
+        *saved = it.entries;
+    }
+    return status;
 }
 
 /* ---- Loading --------------------------------------------------------------------------------- */

@@ -5,47 +5,32 @@
 
 /* ---- A walk ---------------------------------------------------------------------------------- */
 
-/* Goes on to the next slot. */
-static void go_on(const ferretgold_object_cache *cache, ferretgold_object_place *place) {
-    place->slot += 1;
-    if (place->slot == cache->config.slots) {
-        place->shard += 1;
-        place->slot = 0;
-    }
-}
+typedef struct object_walk {
+    ferretgold_object_cache *cache;
+    ferretgold_object_visit *visit;
+    void *context;
+} object_walk;
 
-/* Visits the entry of a slot, if it shows one. Whether the walk goes on. */
-static bool visited(ferretgold_object_cache *cache, const ferretgold_object_place *place,
-                    ferretgold_object_visit *visit, void *context, ferretgold_status *status) {
+static bool visited(void *walk, const ferretgold_place *place, ferretgold_status *status) {
+    const object_walk *it = walk;
     const ferretgold_object_handle *handle = NULL;
-    *status = ferretgold_object_pin_at(cache, place->shard, place->slot, &handle);
+    *status = ferretgold_object_pin_at(it->cache, place->shard, place->slot, &handle);
     if (*status != FERRETGOLD_OK) {
         return *status == FERRETGOLD_MISS;
     }
-    const bool more = visit(context, handle);
-    (void)ferretgold_object_release(cache, handle, false, false, NULL);
+    const bool more = it->visit(it->context, handle);
+    (void)ferretgold_object_release(it->cache, handle, false, false, NULL);
     return more;
 }
 
 ferretgold_status ferretgold_object_walk(ferretgold_object_cache *cache,
                                          ferretgold_object_place *place, uint64_t slots,
                                          ferretgold_object_visit *visit, void *context) {
+    object_walk it = {cache, visit, context};
     if (cache == NULL || place == NULL || visit == NULL) {
         return FERRETGOLD_NULL;
     }
-    if (place->slot >= cache->config.slots) {
-        return FERRETGOLD_MISS;
-    }
-    bool more = true;
-    for (uint64_t left = slots; more && left > 0 && place->shard < cache->config.shards; left--) {
-        ferretgold_status status;
-        more = visited(cache, place, visit, context, &status);
-        if (status > FERRETGOLD_MISS) {
-            return status;
-        }
-        go_on(cache, place);
-    }
-    return place->shard < cache->config.shards ? FERRETGOLD_OK : FERRETGOLD_MISS;
+    return looked_at(place, slots, cache->config.shards, cache->config.slots, visited, &it);
 }
 
 /* ---- Erasing what is meant ------------------------------------------------------------------- */

@@ -1,8 +1,9 @@
 //! A client of a cache, and its calls.
 
 use crate::handle::Handle;
+use crate::meant::erased_where;
 use crate::refused::judged;
-use crate::{raw, Cache, Inserted, Key, Priority, Refused, Stats};
+use crate::{raw, Cache, Config, Inserted, Key, Priority, Refused, Stats};
 use std::ptr::NonNull;
 
 /// What a reading by a key found.
@@ -14,6 +15,19 @@ pub enum Got {
     Value(usize),
     /// A value of so many bytes, more than the buffer has; the buffer is as it was.
     TooShort(usize),
+}
+
+/// What is held at a slot: a handle on the entry there, and what its words say of it.
+#[derive(Debug)]
+pub struct HeldEntry<'c> {
+    /// It gives itself back as no use.
+    pub handle: Handle<'c>,
+    /// The entry's key.
+    pub key: Key,
+    /// Its charge.
+    pub charge: u64,
+    /// Its countdown then.
+    pub uses: u32,
 }
 
 /// A client of a cache, for one thread at a time. It gives itself back when it goes, with the handles
@@ -55,10 +69,46 @@ impl Client<'_> {
     pub fn lookup(&self, key: Key) -> Result<Option<Handle<'_>>, Refused> {
         let mut found = raw::Handle::default();
         match unsafe { raw::ferretgold_lookup(self.raw(), &key, &mut found) } {
-            0 => Ok(Some(Handle::of(self, found))),
+            0 => Ok(Some(Handle::of(self, found, true))),
             1 => Ok(None),
             why => Err(Refused(why)),
         }
+    }
+
+    /// Holds the entry of a slot, if a visible one is there: for walks over a cache.
+    pub fn pin_at(&self, shard: u32, slot: u32) -> Result<Option<HeldEntry<'_>>, Refused> {
+        let mut found = raw::HeldEntry::default();
+        match unsafe { raw::ferretgold_pin_at(self.raw(), shard, slot, &mut found) } {
+            0 => Ok(Some(HeldEntry {
+                handle: Handle::of(self, found.handle, false),
+                key: found.key,
+                charge: found.charge,
+                uses: found.uses,
+            })),
+            1 => Ok(None),
+            why => Err(Refused(why)),
+        }
+    }
+
+    /// Holds each visible entry in turn, slot by slot, while other clients change them; or says of a
+    /// slot why it can't. Each uses a serial.
+    ///
+    /// ```
+    /// # use ferretgold::{Cache, Config, Key, Priority};
+    /// # let cache = Cache::open(&Config::default()).unwrap();
+    /// # let client = cache.client().unwrap();
+    /// # let key = Key { w0: 7, w1: 1 };
+    /// client.insert(key, b"a block", 12, Priority::Low).unwrap();
+    /// let all: Vec<_> = client.iter().collect::<Result<_, _>>().unwrap();
+    /// assert_eq!((all.len(), all[0].key, all[0].charge, all[0].uses), (1, key, 12, 2));
+    /// assert_eq!(all[0].handle.to_vec(), b"a block");
+    /// ```
+    pub fn iter(&self) -> impl Iterator<Item = Result<HeldEntry<'_>, Refused>> + '_ {
+        let Config { shards, slots, .. } = self.cache.config();
+        let client: &Client<'_> = self;
+        (0..shards).flat_map(move |shard| {
+            (0..slots).filter_map(move |slot| client.pin_at(shard, slot).transpose())
+        })
     }
 
     /// Copies the value of an entry of the key to the front of the buffer, with no handle; `useful`
@@ -133,7 +183,7 @@ impl Client<'_> {
                 &mut given,
             )
         })?;
-        Ok((came_of(came), Handle::of(self, given)))
+        Ok((came_of(came), Handle::of(self, given, true)))
     }
 
     /// Hides each visible entry of the key, and says how many.
@@ -142,6 +192,15 @@ impl Client<'_> {
         let status = unsafe { raw::ferretgold_erase(self.raw(), &key, &mut hidden) };
         debug_assert_eq!(status, 0);
         hidden
+    }
+
+    /// Hides each visible entry whose key is meant, as a walk comes to it, and says how many: all that
+    /// are visible all the time. Where `meant` panics, those before are hidden, and the panic goes on.
+    /// Refuses [`Refused::HANDLES_FULL`], [`Refused::SPENT`].
+    pub fn erase_where(&self, mut meant: impl FnMut(Key) -> bool) -> Result<u64, Refused> {
+        erased_where(&mut |key| meant(*key), |meant, context, hidden| unsafe {
+            raw::ferretgold_erase_where(self.raw(), meant, context, hidden)
+        })
     }
 
     /// What is charged, also for standalone entries and for what other clients have reserved.

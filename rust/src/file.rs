@@ -1,12 +1,14 @@
 //! Caches that are saved and loaded, by `ferretgold_file.h`.
 
-use crate::{raw, Cache, Closed, Config, Refused};
+use crate::{raw, Cache, Client, Closed, Config, Refused};
 use std::any::Any;
 use std::error::Error;
-use std::ffi::{c_void, CStr};
+use std::ffi::{c_void, CStr, CString};
 use std::fmt;
 use std::io::{self, ErrorKind, Read, Write};
+use std::os::unix::ffi::OsStrExt;
 use std::panic::{catch_unwind, resume_unwind, AssertUnwindSafe};
+use std::path::Path;
 use std::ptr::{null_mut, NonNull};
 use std::slice;
 
@@ -28,7 +30,7 @@ pub enum FileError {
     Refused(Refused),
     /// Memory was refused.
     Memory,
-    /// No client or no handle was to be had to walk over a cache of objects.
+    /// No client or no handle was to be had to walk over a cache.
     Busy,
 }
 
@@ -80,10 +82,28 @@ impl Closed {
     }
 }
 
+impl Client<'_> {
+    /// Saves what the cache has to a file at `path`, whole or not at all, while other threads work with
+    /// it, and says how many entries that are. [`Cache::load`] begins with it. A dump is no picture of
+    /// one moment, and is only for keys that name content which never changes.
+    pub fn dump(&self, path: &Path) -> Result<u64, FileError> {
+        let (path, mut saved) = (in_c(path).map_err(FileError::Write)?, 0);
+        match unsafe { raw::ferretgold_dump(self.raw(), path.as_ptr(), &mut saved) } {
+            OK => Ok(saved),
+            status => Err(error_of(status, None, Refused::NULL)),
+        }
+    }
+}
+
+/// A path as C has it.
+pub(crate) fn in_c(path: &Path) -> io::Result<CString> {
+    Ok(CString::new(path.as_os_str().as_bytes())?)
+}
+
 impl Cache {
-    /// Opens a cache that begins with what [`Closed::save`] wrote: each entry once, with its key, its value,
-    /// its charge and its uses. Where they are too many, those of most uses come in, and of one key the last
-    /// (`ferretgold_file.h` says it exactly). While it loads it takes at most twice
+    /// Opens a cache that begins with what [`Closed::save`] or [`Client::dump`] wrote: each entry once, with
+    /// its key, its value, its charge and its uses. Where they are too many, those of most uses come in, and
+    /// of one key the last (`ferretgold_file.h` says it exactly). While it loads it takes at most twice
     /// [`Config::memory`] and 64 KiB, with one shard three times. The reader is read to its end: a
     /// [`std::io::BufReader`], say, as each entry is read by itself.
     pub fn load<R: Read + ?Sized>(

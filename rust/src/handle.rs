@@ -1,20 +1,25 @@
 //! A handle: a reference on an entry.
 
 use crate::refused::judged;
-use crate::{raw, Client, Key, Refused};
+use crate::{raw, Client, Key, Part, Refused};
 use std::ptr::null_mut;
 
 /// A reference on an entry, which keeps its key and value for as long. It gives itself back when it
-/// goes, as a use of the entry.
+/// goes, as a use of the entry, unless [`Client::pin_at`] gave it.
 #[derive(Debug)]
 pub struct Handle<'c> {
     client: &'c Client<'c>,
     held: raw::Handle,
+    useful: bool,
 }
 
 impl<'c> Handle<'c> {
-    pub(crate) fn of(client: &'c Client<'_>, held: raw::Handle) -> Handle<'c> {
-        Handle { client, held }
+    pub(crate) fn of(client: &'c Client<'_>, held: raw::Handle, useful: bool) -> Handle<'c> {
+        Handle {
+            client,
+            held,
+            useful,
+        }
     }
 
     pub(crate) fn raw(&self) -> raw::Handle {
@@ -37,7 +42,7 @@ impl<'c> Handle<'c> {
     pub fn reref(&self) -> Result<Handle<'c>, Refused> {
         let mut more = raw::Handle::default();
         judged(unsafe { raw::ferretgold_reref(self.client.raw(), self.held, &mut more) })?;
-        Ok(Handle::of(self.client, more))
+        Ok(Handle::of(self.client, more, true))
     }
 
     /// The key of the entry.
@@ -70,6 +75,17 @@ impl<'c> Handle<'c> {
         Ok(length)
     }
 
+    /// Copies bytes from an offset on to the front of the buffer: as many as there are, and as it has
+    /// room for.
+    pub fn read_part(&self, offset: usize, buffer: &mut [u8]) -> Part {
+        let (at, room, mut part) = (buffer.as_mut_ptr().cast(), buffer.len(), Part::default());
+        let client = self.client.raw();
+        let status =
+            unsafe { raw::ferretgold_read_part(client, self.held, offset, at, room, &mut part) };
+        debug_assert_eq!(status, 0);
+        part
+    }
+
     /// A copy of the value.
     pub fn to_vec(&self) -> Vec<u8> {
         let mut bytes = vec![0; self.len()];
@@ -98,6 +114,6 @@ impl<'c> Handle<'c> {
 
 impl Drop for Handle<'_> {
     fn drop(&mut self) {
-        self.give_back(true, false, null_mut());
+        self.give_back(self.useful, false, null_mut());
     }
 }

@@ -85,6 +85,7 @@ mod handle;
 mod hashed;
 mod image;
 mod loads;
+mod meant;
 mod object_cache;
 mod object_config;
 #[cfg(feature = "file")]
@@ -101,7 +102,7 @@ mod sizes;
 use std::ffi::CStr;
 use std::ptr::{null_mut, NonNull};
 
-pub use client::{Client, Got};
+pub use client::{Client, Got, HeldEntry};
 pub use closed::{Closed, Entry};
 pub use config::{Config, MOST_SERIALS, UNSEEDED};
 #[cfg(feature = "file")]
@@ -114,6 +115,7 @@ pub use object_config::ObjectConfig;
 pub use objects::Objects;
 pub use owned::{Owned, Rejected};
 pub use pinned::Pinned;
+pub use raw::Part;
 use refused::judged;
 pub use refused::Refused;
 pub use sizes::{Advice, Fit};

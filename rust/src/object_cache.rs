@@ -23,6 +23,7 @@
 
 #![deny(unsafe_op_in_unsafe_fn)]
 
+use crate::meant::erased_where;
 use crate::owned::{Owned, Rejected};
 use crate::refused::judged;
 use crate::{panics, raw, Counts, Inserted, Key, ObjectConfig, Priority, Refused};
@@ -67,26 +68,6 @@ unsafe fn from_raw<V>(object: *mut c_void, kind: u16) -> Owned<V> {
         // SAFETY: of the other kind are pointers of shared objects; the caller owns one share.
         _ => Owned::Arc(unsafe { Arc::from_raw(object) }),
     }
-}
-
-/// What a walk asks of each key.
-struct Asking<'a> {
-    meant: &'a mut dyn FnMut(&Key) -> bool,
-    panicked: bool,
-}
-
-/// # Safety
-/// The context is an [`Asking`] that nobody else uses, and the key is one.
-unsafe extern "C" fn is_meant(context: *mut c_void, key: *const Key) -> bool {
-    // SAFETY: the caller says so.
-    let (asking, key) = unsafe { (&mut *context.cast::<Asking>(), &*key) };
-    if asking.panicked {
-        return false;
-    }
-    let mut answer = None;
-    panics::caught(|| answer = Some((asking.meant)(key)));
-    asking.panicked = answer.is_none();
-    answer == Some(true)
 }
 
 /// What C calls for each object of a cache of `V`, once, when nobody holds it. It doesn't unwind.
@@ -167,20 +148,12 @@ impl<V> ObjectCache<V> {
         judged(status).map(|()| hidden)
     }
 
-    /// Nothing more is meant, once `meant` panicked; the panic goes on when the walk is over.
     pub fn erase_where(&self, meant: &mut dyn FnMut(&Key) -> bool) -> Result<u64, Refused> {
-        let mut asking = Asking {
-            meant,
-            panicked: false,
-        };
-        let mut hidden = 0;
-        // SAFETY: *Open*. C calls the function before its call is over.
-        let status = unsafe {
-            let context = ptr::from_mut(&mut asking).cast();
-            raw::ferretgold_object_erase_where(self.at.as_ptr(), is_meant, context, &mut hidden)
-        };
-        panics::go_on();
-        judged(status).map(|()| hidden)
+        erased_where(meant, |meant, context, hidden| {
+            let cache = self.at.as_ptr();
+            // SAFETY: *Open*. C calls the function before its call is over.
+            unsafe { raw::ferretgold_object_erase_where(cache, meant, context, hidden) }
+        })
     }
 
     pub fn usage(&self) -> Result<u64, Refused> {

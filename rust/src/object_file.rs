@@ -3,11 +3,9 @@
 
 #![deny(unsafe_op_in_unsafe_fn)]
 
-use crate::file::{error_of, Called, FileError, Loaded, OK};
+use crate::file::{error_of, in_c, Called, FileError, Loaded, OK};
 use crate::{panics, raw, Inserted, Objects, Owned, Priority, Refused};
-use std::ffi::{c_void, CString};
-use std::io;
-use std::os::unix::ffi::OsStrExt;
+use std::ffi::c_void;
 use std::path::Path;
 use std::ptr;
 use std::slice;
@@ -74,11 +72,6 @@ impl<V: Send + Sync> Objects<V> {
             (_, failed) => Err(error_of(status, failed, Refused::NULL)),
         }
     }
-}
-
-/// A path as C has it.
-fn in_c(path: &Path) -> io::Result<CString> {
-    Ok(CString::new(path.as_os_str().as_bytes())?)
 }
 
 /// Where objects go, and how they are made.

@@ -30,6 +30,25 @@ pub struct Handle {
     pub cache: u32,
 }
 
+#[repr(C)]
+#[derive(Clone, Copy, Debug, Default)]
+pub struct HeldEntry {
+    pub handle: Handle,
+    pub key: Key,
+    pub charge: u64,
+    pub uses: u32,
+}
+
+/// What a reading of a part of a value gave.
+#[repr(C)]
+#[derive(Clone, Copy, Debug, Default, PartialEq, Eq)]
+pub struct Part {
+    /// How many bytes are at the front of the buffer.
+    pub given: usize,
+    /// How many bytes the whole value has.
+    pub length: usize,
+}
+
 /// A configuration of a cache of objects, as it crosses to C.
 #[repr(C)]
 #[derive(Clone, Copy, Default)]
@@ -156,6 +175,18 @@ extern "C" {
         handle: *mut Handle,
     ) -> u32;
     pub fn ferretgold_erase(client: *mut Client, key: *const Key, hidden: *mut u32) -> u32;
+    pub fn ferretgold_pin_at(
+        client: *mut Client,
+        shard: u32,
+        slot: u32,
+        held: *mut HeldEntry,
+    ) -> u32;
+    pub fn ferretgold_erase_where(
+        client: *mut Client,
+        meant: Meant,
+        context: *mut c_void,
+        hidden: *mut u64,
+    ) -> u32;
     pub fn ferretgold_handle_key(client: *mut Client, handle: Handle, key: *mut Key) -> u32;
     pub fn ferretgold_value_len(client: *mut Client, handle: Handle, length: *mut usize) -> u32;
     pub fn ferretgold_read_value(
@@ -164,6 +195,14 @@ extern "C" {
         buffer: *mut c_void,
         capacity: usize,
         length: *mut usize,
+    ) -> u32;
+    pub fn ferretgold_read_part(
+        client: *mut Client,
+        handle: Handle,
+        offset: usize,
+        buffer: *mut c_void,
+        capacity: usize,
+        part: *mut Part,
     ) -> u32;
     pub fn ferretgold_get(
         client: *mut Client,
@@ -340,6 +379,7 @@ extern "C" {
         cache: *mut *mut Cache,
         loaded: *mut Loaded,
     ) -> u32;
+    pub fn ferretgold_dump(client: *mut Client, path: *const c_char, saved: *mut u64) -> u32;
     pub fn ferretgold_object_dump(
         cache: *mut ObjectCache,
         size: ObjectSize,

@@ -1,9 +1,10 @@
 //! Each call, and what types can't rule out.
 
 use ferretgold::{
-    Advice, Cache, Client, Config, Counts, Got, Image, Inserted, Key, Priority, Refused, Stats,
+    Advice, Cache, Client, Config, Counts, Got, Image, Inserted, Key, Part, Priority, Refused, Stats,
 };
 use std::mem::forget;
+use std::panic::{catch_unwind, AssertUnwindSafe};
 
 const KEY: Key = Key { w0: 1, w1: 2 };
 const OTHER: Key = Key { w0: 3, w1: 4 };
@@ -81,12 +82,48 @@ fn a_handle_keeps_its_entry() {
     );
     assert!(yours.holds(&again) && !mine.holds(&again) && mine.holds(&first));
     assert_eq!(again.read(&mut [0]), Err(Refused::TOO_SHORT));
+    let mut last = [9; 2];
+    let length = again.len();
+    let part = again.read_part(length - 1, &mut last);
+    assert_eq!((part, last[1]), (Part { given: 1, length }, 9));
+    assert_eq!(again.read_part(length, &mut last).given, 0);
     assert!(!first.release(false, true));
     let more = again.reref().unwrap();
     assert_eq!((mine.held(), yours.held()), (0, 2));
     assert!(!again.release(false, true));
     assert!(more.release(false, true));
     assert_eq!((yours.held(), yours.usage()), (0, 0));
+}
+
+#[test]
+fn walks_hold_each_entry_and_erase_what_is_meant() {
+    let cache = Cache::open(&small()).unwrap();
+    let client = cache.client().unwrap();
+    assert_eq!(inserts(&client, KEY, b"hello"), Ok(Inserted::Placed));
+    assert_eq!(inserts(&client, OTHER, b""), Ok(Inserted::Placed));
+    let mut seen: Vec<_> = client
+        .iter()
+        .map(Result::unwrap)
+        .map(|it| (it.key, it.charge, it.uses, it.handle.to_vec()))
+        .collect();
+    seen.sort_by_key(|it| it.0.w0);
+    assert_eq!(
+        seen,
+        [(KEY, 7, 2, b"hello".to_vec()), (OTHER, 7, 2, vec![])]
+    );
+    assert!(client.pin_at(1, 0).unwrap().is_none() && client.pin_at(0, 8).unwrap().is_none());
+    let held: Vec<_> = (0..3).map(|_| client.lookup(KEY).unwrap()).collect();
+    let full = Refused::HANDLES_FULL;
+    assert_eq!(client.pin_at(0, 0).unwrap_err(), full);
+    assert!(client.iter().all(|it| it.is_err_and(|why| why == full)));
+    assert_eq!(client.erase_where(|_| true), Err(full));
+    drop(held);
+    assert_eq!(client.erase_where(|key| key == KEY), Ok(1));
+    let asked = AssertUnwindSafe(|| client.erase_where(|_| panic!("asked")));
+    let panic = catch_unwind(asked).unwrap_err();
+    assert_eq!(panic.downcast_ref(), Some(&"asked"));
+    assert_eq!(client.erase_where(|_| true), Ok(1));
+    assert_eq!((client.held(), client.occupancy()), (0, 0));
 }
 
 #[test]

@@ -34,8 +34,8 @@ fn value_of(number: u64) -> Vec<u8> {
     (0..number * 3).map(|at| (number * 41 + at) as u8).collect()
 }
 
-/// A cache with some entries, of which one was erased, that is closed.
-fn closed() -> Closed {
+/// A cache with some entries, of which one was erased.
+fn filled() -> Cache {
     let cache = Cache::open(&small()).unwrap();
     let client = cache.client().unwrap();
     for number in 0..ENTRIES {
@@ -44,7 +44,11 @@ fn closed() -> Closed {
     }
     assert_eq!(client.erase(key_of(3)), 1);
     drop(client);
-    cache.close_keeping().map_err(|(why, _)| why).unwrap()
+    cache
+}
+
+fn closed() -> Closed {
+    filled().close_keeping().map_err(|(why, _)| why).unwrap()
 }
 
 fn saved() -> Vec<u8> {
@@ -296,6 +300,25 @@ fn writers_and_readers_may_be_of_any_kind() {
 fn panicked<T>(call: impl FnOnce() -> T) -> Option<&'static str> {
     let panic = catch_unwind(AssertUnwindSafe(|| drop(call()))).err()?;
     panic.downcast_ref().copied()
+}
+
+#[test]
+fn a_cache_that_runs_is_dumped_and_loaded() {
+    let path = env::temp_dir().join(format!("ferretgold-{}.bytes", process::id()));
+    let cache = filled();
+    let client = cache.client().unwrap();
+    assert_eq!(client.dump(&path).unwrap(), ENTRIES - 1);
+    let (warm, loaded) = Cache::load(&small(), &mut fs::File::open(&path).unwrap()).unwrap();
+    assert_eq!((loaded.left, whole(warm)), (ENTRIES - 1, ENTRIES - 1));
+    assert!(matches!(
+        client.dump(&path.join("none")),
+        Err(FileError::Write(_))
+    ));
+    let held: Vec<_> = (0..small().handles)
+        .map(|_| client.lookup(key_of(1)).unwrap())
+        .collect();
+    assert!(matches!(client.dump(&path), Err(FileError::Busy)) && held.len() > 1);
+    fs::remove_file(&path).unwrap();
 }
 
 #[test]

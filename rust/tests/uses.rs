@@ -48,7 +48,7 @@ macro_rules! inserted {
 }
 
 /// What is done with an entry, and its countdown then.
-const OF_BYTES: [(&str, fn(&Client), u32); 13] = [
+const OF_BYTES: [(&str, fn(&Client), u32); 16] = [
     ("high", |it| insert(it, High), 3),
     ("low", |it| insert(it, Low), 2),
     ("by default", |it| insert(it, Priority::default()), 2),
@@ -74,6 +74,21 @@ const OF_BYTES: [(&str, fn(&Client), u32); 13] = [
     (
         "read as no use",
         inserted!(it: it.get(KEY, &mut [0; 2], false)),
+        1,
+    ),
+    (
+        "walked over",
+        inserted!(it: assert_eq!(it.iter().map(Result::unwrap).count(), 1)),
+        1,
+    ),
+    (
+        "used on a walk",
+        inserted!(it: it.iter().for_each(|it| assert!(!it.unwrap().handle.release(true, false)))),
+        2,
+    ),
+    (
+        "not meant",
+        inserted!(it: assert_eq!(it.erase_where(|_| false), Ok(0))),
         1,
     ),
     (

@@ -37,7 +37,7 @@ prints() {
 
 # Plays traces of calls: plays LIBRARY WORD..
 plays() {
-    builds tests/c/{play,edges,order,counted,seeds,budgets,closed,image,heap}.c "$out/$1" "${@:2}" $wrap \
+    builds tests/c/{play,edges,order,counted,seeds,budgets,closed,image,walk,heap}.c "$out/$1" "${@:2}" $wrap \
         && runs tests/program/calls tests/c/calls
 }
 

@@ -243,6 +243,8 @@ static void nulls(ferretgold_client *it) {
     EXPECT(ferretgold_value_len(it, handle, NULL), 16);
     EXPECT(ferretgold_read_value(NULL, handle, &byte, 1, &length), 16);
     EXPECT(ferretgold_read_value(it, handle, NULL, 1, &length), 16);
+    EXPECT(ferretgold_read_part(NULL, handle, 0, &byte, 1, NULL), 16);
+    EXPECT(ferretgold_read_part(it, handle, 0, NULL, 1, NULL), 16);
     EXPECT(ferretgold_get(NULL, &KEY, &byte, 1, true, &length), 16);
     EXPECT(ferretgold_get(it, NULL, &byte, 1, true, &length), 16);
     EXPECT(ferretgold_get(it, &KEY, NULL, 1, true, &length), 16);
@@ -277,6 +279,7 @@ static void no_handle(ferretgold_client *it, ferretgold_handle handle) {
     EXPECT(ferretgold_handle_key(it, handle, &key), 17);
     EXPECT(ferretgold_value_len(it, handle, &length), 17);
     EXPECT(ferretgold_read_value(it, handle, &byte, 1, &length), 17);
+    EXPECT(ferretgold_read_part(it, handle, 0, &byte, 1, NULL), 17);
     EXPECT(more.serial == 5 && key.w0 == 5 && length == 5 && freed && byte == 5, true);
 }
 
@@ -363,6 +366,7 @@ static void idle(ferretgold_cache *cache, ferretgold_client *it, ferretgold_hand
     EXPECT(ferretgold_handle_key(it, handle, &key), 36);
     EXPECT(ferretgold_value_len(it, handle, &length), 36);
     EXPECT(ferretgold_read_value(it, handle, &byte, 1, &length), 36);
+    EXPECT(ferretgold_read_part(it, handle, 0, &byte, 1, NULL), 36);
     EXPECT(ferretgold_get(it, &KEY, &byte, 1, true, &length), 36);
     EXPECT(ferretgold_usage(it, &wide), 36);
     EXPECT(ferretgold_pinned_usage(it, &wide), 36);

@@ -32,6 +32,9 @@ void counted(void);
 /* Seeds, and what is drawn. */
 void seeds(void);
 
+/* Walks over a cache. */
+void walks(void);
+
 /* Configurations for so much memory, and what to think over in one. */
 void budgets(void);
 

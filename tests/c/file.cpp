@@ -49,18 +49,23 @@ std::string value_of(std::uint64_t number) {
     return std::string(number * 3, static_cast<char>('a' + number));
 }
 
-// What is left of a cache with some entries, of which one was erased.
+// A client of a cache with some entries, of which one was erased.
+ferretgold::client filled(const cache &it) {
+    ferretgold_status why{};
+    ferretgold::client client = it.open_client(why);
+    for (std::uint64_t number = 0; number < ENTRIES; number++) {
+        const std::string value = value_of(number);
+        EXPECT(client.insert({number, 1}, value.data(), value.size(), 7) == FERRETGOLD_OK);
+    }
+    EXPECT(client.erase({3, 1}, why) == 1);
+    return client;
+}
+
+// What is left of such a cache.
 closed made() {
     ferretgold_status why{};
     cache it(small(5), why);
-    {
-        ferretgold::client client = it.open_client(why);
-        for (std::uint64_t number = 0; number < ENTRIES; number++) {
-            const std::string value = value_of(number);
-            EXPECT(client.insert({number, 1}, value.data(), value.size(), 7) == FERRETGOLD_OK);
-        }
-        EXPECT(client.erase({3, 1}, why) == 1);
-    }
+    (void)filled(it);
     return it.close_keeping(why);
 }
 
@@ -353,6 +358,33 @@ void exceptions() {}
 
 #endif
 
+// ---- Dumps -------------------------------------------------------------------------------------
+
+// A cache that runs is dumped to a path, and a stream of that file is loaded.
+void dumps_bytes(const std::string &path) {
+    using result = std::pair<std::uint64_t, ferretgold_file_status>;
+    ferretgold_status why{};
+    ferretgold_file_status status = FERRETGOLD_FILE_NULL;
+    const cache it(small(5), why);
+    const ferretgold::client client = filled(it);
+    ferretgold::dump(client, path.c_str(), status);
+    EXPECT(status == FERRETGOLD_FILE_OK);
+    {
+        std::ifstream from(path, std::ios::binary);
+        EXPECT(loaded_from(from, false) == result(ENTRIES - 1, FERRETGOLD_FILE_OK));
+    }
+    ferretgold::dump(ferretgold::client(), path.c_str(), status);
+    EXPECT(status == FERRETGOLD_FILE_NULL);
+#ifdef __cpp_exceptions
+    std::remove(path.c_str());
+    EXPECT(thrown([&] { ferretgold::dump(client, path.c_str()); }) == FERRETGOLD_FILE_OK);
+    EXPECT(std::ifstream(path).good());
+    EXPECT(thrown([&] { ferretgold::dump(client, (path + ".none/it").c_str()); }) == FERRETGOLD_FILE_WRITE);
+    EXPECT(thrown([&] { ferretgold::dump(ferretgold::client(), path.c_str()); }) == FERRETGOLD_FILE_NULL);
+#endif
+    std::remove(path.c_str());
+}
+
 // ---- Objects -----------------------------------------------------------------------------------
 
 ferretgold::object_cache<std::string> texts() {
@@ -492,6 +524,7 @@ int main(int count, char **words) {
     by_functions();
     by_streams(words[1]);
     exceptions();
+    dumps_bytes(words[1] + std::string(".dump"));
     dumps(words[1] + std::string(".dump"));
     comes_back_low(words[1] + std::string(".dump"));
     finds_no_room(words[1] + std::string(".dump"));

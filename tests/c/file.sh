@@ -69,6 +69,8 @@ tries_all() {
     tries "rows of objects, $1" "$folder/objects" rows
     tries "building for pieces, $1" builds pieces cc -std=c11 tests/c/pieces.c tests/c/heap.c "$wrap"
     tries "pieces of objects, $1" "$folder/pieces"
+    tries "building for dumps of bytes, $1" builds dump cc -std=c11 tests/c/dump.c tests/c/heap.c "$wrap"
+    tries "rows of dumps of bytes, $1" "$folder/dump" rows
     tries "building for dumps, $1" builds dumps cc -std=c11 tests/c/object_dump.c
     tries "rows of dumps, $1" "$folder/dumps" rows
     tries "programs that are killed, $1" "$folder/dumps" killed 100

@@ -72,6 +72,16 @@ AT(ferretgold_fit, entries, 16, 8)
 AT(ferretgold_fit, more, 24, 8)
 AT(ferretgold_fit, half, 32, 1)
 
+SIZE_IS(ferretgold_held_entry, 56)
+AT(ferretgold_held_entry, handle, 0, 24)
+AT(ferretgold_held_entry, key, 24, 16)
+AT(ferretgold_held_entry, charge, 40, 8)
+AT(ferretgold_held_entry, uses, 48, 4)
+
+SIZE_IS(ferretgold_place, 8)
+AT(ferretgold_place, shard, 0, 4)
+AT(ferretgold_place, slot, 4, 4)
+
 SIZE_IS(ferretgold_entry, 40)
 AT(ferretgold_entry, key, 0, 16)
 AT(ferretgold_entry, length, 16, 8)

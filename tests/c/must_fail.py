@@ -83,7 +83,7 @@ void program(ferretgold_client *client) {
 """
 # Words of the compiler by which layouts differ from the library's, and words of the errors.
 C_WORDS = [("-fshort-enums", "ferretgold: ferretgold_(?:status|priority|inserted) has another size here"),
-           ("-fpack-struct=1", "ferretgold: (?:ferretgold_fit|ferretgold_entry|it) has another size here")]
+           ("-fpack-struct=1", "ferretgold: (?:ferretgold_fit|ferretgold_(?:held_)?entry|it) has another size here")]
 
 
 def said(words, text):

@@ -170,11 +170,13 @@ static void handles(unsigned due) {
     const int wanted = is_due(due, HANDLES) ? 23 : 24;
     const stage on = prepared(due);
     const ferretgold_handle none = {0, 77, 0, 0};
+    ferretgold_held_entry held;
     ferretgold_handle more;
     EXPECT(ferretgold_lookup(on.it, &THERE, &more), wanted);
     EXPECT(ferretgold_lookup(on.it, &ABSENT, &more), wanted);
     EXPECT(ferretgold_reref(on.it, on.held, &more), wanted);
     EXPECT(ferretgold_reref(on.it, none, &more), 17);
+    EXPECT(ferretgold_pin_at(on.it, 0, 0, &held), wanted);
     end(on);
 }
 

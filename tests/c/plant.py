@@ -28,9 +28,9 @@ from pathlib import Path
 
 TOP = Path(__file__).resolve().parent.parent.parent
 # What is compiled into the library.
-OBJECTS = [f"src/{it}.c" for it in ("ferretgold", "closed", "counts", "drawing", "heap", "image", "sizes")]
+OBJECTS = [f"src/{it}.c" for it in ("ferretgold", "closed", "counts", "drawing", "heap", "image", "sizes", "walk")]
 # What is compiled only where there is xxhash.h.
-SAVED = ["file", "chosen", "object_file", "object_dump"]  # each with a test of that name
+SAVED = ["file", "chosen", "dump", "object_file", "object_dump"]  # each with a test of that name
 SAVES = [*(f"src/{it}.c" for it in SAVED), "include/ferretgold_file.hpp"]
 HANDS = [f"src/object{it}.c" for it in ("", "_bytes", "_call", "_clients", "_counts", "_opening", "_queue", "_walk")]
 FILES = ["include/ferretgold.h", "include/ferretgold_inline.h", "include/ferretgold.hpp", *OBJECTS, *SAVES, *HANDS]
@@ -46,7 +46,8 @@ HEADERS = ["include/ferretgold_raw.h", "include/ferretgold_closed.h", "include/f
            "src/chosen.h", "src/closed.h", "src/counts.h", "src/file.h", "src/heap.h", "src/limits.h", "src/object.h",
            "src/object_call.h", "src/opening.h", "src/walk.h"]
 CHANCE = "by chance: "
-PLAYS = [f"tests/c/{it}.c" for it in ("play", "edges", "order", "counted", "seeds", "budgets", "closed", "image")]
+PLAYS = [f"tests/c/{it}.c" for it in
+         ("play", "edges", "order", "counted", "seeds", "budgets", "closed", "image", "walk")]
 CPP = ["tests/c/play.cpp", "tests/c/closed.cpp"]
 STREAMS = ["tests/c/file.cpp"]
 HANDED = [f"tests/c/object{it}.c" for it in

@@ -1,6 +1,6 @@
 /* Plays traces of calls through ferretgold.h alone, and compares each answer with the one recorded
  * beside its call; then tries what no trace shows (edges.c, order.c, counted.c, seeds.c, budgets.c,
- * closed.c, image.c). It is what tests/c/plant.py tries planted bugs by.
+ * closed.c, image.c, walk.c). It is what tests/c/plant.py tries planted bugs by.
  * Usage: play FILE.. where a file has cases as tests/program/calls has, and a letter more:
  *     c T k0 k1 U|N n     reads a key's value to a buffer of n bytes: value V, short LENGTH, miss
  */
@@ -164,6 +164,20 @@ static void release(ferretgold_client *it, place *from, bool useful, bool erase,
     sprintf(out, "%s", freed ? "freed" : "kept");
 }
 
+/* A part of a value of these bytes is what stands there, and nothing behind it changes. */
+static void read_part(ferretgold_client *it, const place *from, const unsigned char *bytes,
+                      size_t length, size_t offset, size_t capacity) {
+    unsigned char got[BYTES];
+    ferretgold_part part = {7, 7};
+    const size_t left = offset < length ? length - offset : 0;
+    const size_t given = left < capacity ? left : capacity;
+    memset(got, 0x5a, sizeof got);
+    EXPECT(ferretgold_read_part(it, from->handle, offset, got, capacity, &part), 0);
+    EXPECT(part.given == given && part.length == length, true);
+    EXPECT(memcmp(got, bytes + (offset < length ? offset : 0), given), 0);
+    EXPECT(got[given], 0x5a);
+}
+
 static void read_value(ferretgold_client *it, const place *from, char *out) {
     unsigned char bytes[BYTES];
     size_t length = 0, copied = 0;
@@ -182,6 +196,13 @@ static void read_value(ferretgold_client *it, const place *from, char *out) {
     EXPECT(ferretgold_read_value(it, from->handle, bytes, length + 1, &copied), 0);
     EXPECT(copied, length);
     EXPECT(bytes[length], 0x5a);
+    const size_t offsets[] = {0, 1, 7, 8, 9, length / 2, length - 1, length, length + 1, SIZE_MAX};
+    for (size_t k = 0; k < sizeof offsets / sizeof offsets[0]; k++) {
+        read_part(it, from, bytes, length, offsets[k], 0);
+        read_part(it, from, bytes, length, offsets[k], 9);
+        read_part(it, from, bytes, length, offsets[k], length + 1);
+    }
+    EXPECT(ferretgold_read_part(it, from->handle, 0, NULL, 0, NULL), 0);
     say_value(out, bytes, length);
 }
 
@@ -374,6 +395,7 @@ int main(int count, char **files) {
     budgets();
     closed_caches();
     images();
+    walks();
     EXPECT(heap_blocks, 0);
     for (int k = 1; k < count; k++) {
         play_file(files[k]);

@@ -396,6 +396,51 @@ void defaults() {
     EXPECT(uses() == 2);
 }
 
+// What is held at its slot has the uses that it had, however the handle is moved; what is meant is erased.
+void walked() {
+    cache it(small());
+    client one = it.open_client();
+    ferretgold_status why{};
+    ferretgold_held_entry held{};
+    std::uint32_t at = 0;
+    const auto uses = [&] { return one.pin_at(0, at, &held) ? held.uses : 0; };
+    for (std::uint32_t number = 1; number <= 3; number++) {
+        EXPECT(one.insert({number, 2}, "abc", number, 10 * number) == 0);
+    }
+    for (int found = 0, round = 0; round < 2; round++, found = 0) {
+        for (std::uint32_t slot = 0; slot < 8; slot++) {
+            handle first = one.pin_at(0, slot, &held, why), third;
+            EXPECT(why == (first ? FERRETGOLD_OK : FERRETGOLD_MISS));
+            if (first) {
+                at = slot;
+                found++;
+                EXPECT(held.uses == 2 && held.charge == 10 * held.key.w0 && first.size() == held.key.w0);
+                handle second(std::move(first));
+                third = std::move(second);
+                first = one.pin_at(0, slot, &held);
+                first = handle();
+            }
+        }
+        EXPECT(found == 3 && one.held() == 0);
+    }
+    handle last = one.pin_at(0, at, &held);
+    last = one.lookup(held.key);
+    last = handle();
+    EXPECT(uses() == 3);
+    one.pin_at(0, at, &held).release();
+    EXPECT(uses() == 4);
+    {
+        const handle all[] = {one.lookup(held.key), one.lookup(held.key), one.lookup(held.key)};
+        EXPECT(all[2] && !one.pin_at(0, at, &held, why) && why == FERRETGOLD_HANDLES_FULL);
+        EXPECT(refuses([&] { (void)one.pin_at(0, at, &held); }, 23));
+        EXPECT(refuses([&] { (void)one.erase_where([](const ferretgold_key &) { return true; }); }, 23));
+    }
+    int asked = 0;
+    const auto is_odd = [&](const ferretgold_key &key) { return asked++, key.w0 % 2 == 1; };
+    EXPECT(one.erase_where(is_odd, why) == 2 && why == FERRETGOLD_OK && asked == 3);
+    EXPECT(one.erase_where([](const ferretgold_key &) { return true; }) == 1 && one.occupancy() == 0);
+}
+
 // Clients and caches that are moved, and those that aren't given or taken back.
 void moved_caches() {
     cache first(small());
@@ -470,6 +515,10 @@ void nobody() {
     is_null([&] { return one.insert_pinned(KEY, "", 0, 1, FERRETGOLD_LOW, nullptr, why); },
             [&] { return one.insert_pinned(KEY, "", 0, 1); });
     is_null([&] { return one.erase(KEY, why); }, [&] { return one.erase(KEY); });
+    ferretgold_held_entry held{};
+    const auto all = [](const ferretgold_key &) { return true; };
+    is_null([&] { return one.pin_at(0, 0, &held, why); }, [&] { return one.pin_at(0, 0, &held); });
+    is_null([&] { return one.erase_where(all, why); }, [&] { return one.erase_where(all); });
     is_null([&] { return one.usage(why); }, [&] { return one.usage(); });
     is_null([&] { return one.pinned_usage(why); }, [&] { return one.pinned_usage(); });
     is_null([&] { return one.occupancy(why); }, [&] { return one.occupancy(); });
@@ -502,6 +551,8 @@ void told() {
     EXPECT(held.key(why).w1 == KEY.w1 && held.size(why) == 2 && why == FERRETGOLD_OK);
     EXPECT(held.read(bytes, 1, why) == 2 && why == FERRETGOLD_TOO_SHORT);
     EXPECT(held.read(bytes, 4, why) == 2 && why == FERRETGOLD_OK && bytes[1] == 'b');
+    const auto part = held.read_part(1, bytes, 4, why);
+    EXPECT(part.given == 1 && part.length == 2 && why == FERRETGOLD_OK && bytes[0] == 'b');
     handle more = held.reref(why), most = held.reref(why);
     EXPECT(most && why == FERRETGOLD_OK && !held.reref(why) && why == FERRETGOLD_HANDLES_FULL);
     EXPECT(first.serials_left() == small().serials - 4);
@@ -622,6 +673,7 @@ void edges() {
     moved_handles();
     lent();
     defaults();
+    walked();
     moved_caches();
     seeded();
     outlived();

@@ -266,7 +266,7 @@ in_rust='40000 squares are right, and the books agree with the slots
 
 wrap=-Wl,--wrap=malloc,--wrap=realloc,--wrap=aligned_alloc,--wrap=free,--wrap=getrandom
 library=src/out/libferretgold.a
-traces=(tests/c/{play,edges,order,counted,seeds,budgets,closed,image}.c)
+traces=(tests/c/{play,edges,order,counted,seeds,budgets,closed,image,walk}.c)
 met='ferretgold: two threads use client 0 at once: ferretgold_usage and ferretgold_insert_pinned'
 
 if command -v cc > /dev/null; then

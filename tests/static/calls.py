@@ -50,6 +50,8 @@ CALLED_BY_NOBODY = {
     " hcc_block::ReadError::text hcc_player::TextFault::text",
     "for whoever reads through the cache: a source for tests, and the key of a block that is to be erased":
     "hcc_block::FailingSource::new hcc_block::key_of",
+    "for programs of Rattle, of which each client has a thread": "hcc_cache::Cache::witness"
+    " hcc_cache::Cache::follow hcc_cache::ObjectCache::witness hcc_cache::ObjectCache::follow",
     "a part of a layer's promises that tests call by itself": "hcc_word::acquired hcc_word::acquires"
     " hcc_rule::Key::from_bytes hcc_table::free_taken hcc_charge::evict",
 }
@@ -58,6 +60,7 @@ CALLED_BY_NOBODY = {
 REACHES = "src/words.rt"
 OPERATIONS = {
     "new": "of_words", "close": "close_with", "split": "split_seat", "join": "join_seat",
+    "witness": "split_seat", "hear": "join_seat",
     **{it: it for it in "load store fetch_add fetch_sub fetch_and fetch_or compare_exchange".split()},
 }
 REACHING = re.compile(r"\bshared\b|\bpeek\b|\bTable\b")

@@ -10,21 +10,22 @@ TOP = Path(__file__).resolve().parent.parent.parent
 CRATE = TOP / "crates/hcc_c/src"
 # The structs that cross, as the library and as C call them.
 STRUCTS = {"Key": "key", "CHandle": "handle", "CConfig": "config", "Stats": "stats", "Totals": "totals",
-           "Counts": "outcomes", "Entry": "entry", "CObject": "object_value", "CHeldObject": "held_object",
-           "CObjectConfig": "object_config"}
+           "Counts": "outcomes", "Entry": "entry", "CHeldEntry": "held_entry", "CPart": "part",
+           "CObject": "object_value", "CHeldObject": "held_object", "CObjectConfig": "object_config"}
 SIZES = {"bool": 1, "u16": 2, "u32": 4, "u64": 8, "usize": 8, "Key": 16, "CObject": 16, "CHandle": 24}
 RUST = TOP / "rust/src"
 PLAIN = {"uint16_t": "u16", "uint32_t": "u32", "uint64_t": "u64", "size_t": "usize", "bool": "bool",
          "void": "c_void", "char": "c_char", "ferretgold_status": "u32", "ferretgold_priority": "u32",
          "ferretgold_inserted": "u32", "ferretgold_file_status": "u32"}
-FIELDS = ("config", "handle", "key", "stats", "counts", "totals", "fit", "entry", "loaded", "object_config",
-          "object_handle")
+FIELDS = ("config", "handle", "key", "stats", "counts", "totals", "fit", "held_entry", "entry", "loaded",
+          "object_config", "object_handle")
 HEADERS = tuple(TOP / f"include/ferretgold{it}.h" for it in ("", "_closed", "_image", "_file", "_object"))
 IN_CPP = {"ferretgold.hpp": HEADERS[:3], "ferretgold_file.hpp": HEADERS[3:4],
           "ferretgold_object.hpp": HEADERS[4:]}
 # For which C++ and Rust have types, and what neither has.
-ONLY_IN_C = tuple(f"ferretgold_object_{it}" for it in ("free_bytes", "insert_bytes", "bytes", "find", "give_back",
-                                                       "put", "walk", "visit", "save", "load"))
+ONLY_IN_C = ("ferretgold_walk", "ferretgold_visit",
+             *(f"ferretgold_object_{it}" for it in ("free_bytes", "insert_bytes", "bytes", "find", "give_back",
+                                                    "put", "walk", "visit", "save", "load")))
 # By which name a function is linked.
 LINKED = r"FERRETGOLD_LINKED\((\w+)\)"
 # Functions of the caller's, which the library calls.

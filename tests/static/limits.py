@@ -79,7 +79,8 @@ def limits():
 SIZES = [(8, 1, 1), (64, 3, 2), (8192, 512, 64), (65536, 100, 7)]
 DEFINED = {"hcc_table": "Steps", "hcc_charge": "Evicted", "hcc_shard": "Inserted"}
 VARIABLES = {"self.now.geometry.slots": "L", "self.now.geometry.room": "W", "length self.now.shards.items": "S",
-             "words_for result": "W", "words_for len": "W", "(v w.": "("}
+             "words_for result": "W", "words_for len": "W", "words_across offset result.given": "W",
+             "words_across offset part.given": "W", "(v w.": "("}
 OPERATORS = {"+": operator.add, "-": operator.sub, "*": operator.mul, "/": operator.floordiv}
 TERM = re.compile(r"\s*([A-Za-z_]\w*|\d+|[-+*/()])")
 DEFINITION = r"^(%s)((?: \w+)*) = ([^\n]+)$"

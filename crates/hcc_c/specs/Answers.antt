@@ -36,16 +36,17 @@ abbrev pub status_of_checked : Result (Unit {0}) NewError → ℕ
 status_of_checked (Ok allowed) = 0
 status_of_checked (Err why) = code_of (opening_of why)
 
--- a look-up
-abbrev pub status_of_look : Result (Option CHandle) LookupError → ℕ
-status_of_look (Ok None) = 1
-status_of_look (Ok (Some c_handle)) = 0
-status_of_look (Err why) = code_of (looking_of why)
+-- what a look-up finds, and what it or a walk at a slot holds
+module _ {A : Type 0} where
+  abbrev pub status_of_look : Result (Option A) LookupError → ℕ
+  status_of_look (Ok None) = 1
+  status_of_look (Ok (Some found)) = 0
+  status_of_look (Err why) = code_of (looking_of why)
 
-abbrev pub c_handle_after : Result (Option CHandle) LookupError → CHandle → CHandle
-c_handle_after (Ok None) old = old
-c_handle_after (Ok (Some c_handle)) old = c_handle
-c_handle_after (Err why) old = old
+  abbrev pub found_or : Result (Option A) LookupError → A → A
+  found_or (Ok None) old = old
+  found_or (Ok (Some found)) old = found
+  found_or (Err why) old = old
 
 -- one handle more
 abbrev pub status_of_reref : Option (Result CHandle LookupError) → ℕ

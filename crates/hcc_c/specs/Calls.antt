@@ -1,5 +1,5 @@
 -- What each call of a client comes to: what it answers, and what it leaves of the session.
-use Rattle.std.specs.Prelude.{◌≡◌, ℕ, ◌+◌, ◌-◌, ◌*◌, ◌/◌, ◌<◌, ◌≤◌, ◌++◌, ◌↔◌, Bool, true, false, List, Option, Some, Result, Ok, Err, IfOk, IfErr, IfSome, IfNone, OnOk, OnErr, IsOk, IsErrOf, IsOkUnless, MatchResult, drop, length, option_map, slice_get}
+use Rattle.std.specs.Prelude.{◌≡◌, ℕ, ◌+◌, ◌-◌, ◌*◌, ◌/◌, ◌<◌, ◌≤◌, ◌++◌, ◌↔◌, Bool, true, false, List, Option, Some, Result, Ok, Err, IfOk, IfErr, IfSome, IfNone, OnOk, OnErr, IsOk, IsErrOf, IsOkUnless, MatchResult, None, drop, length, min, option_map, slice_get}
 use Rattle.std.specs.Arc.{arc_value}
 use Rattle.hcc_core.specs.declared.limits.TheConstants.{OCCUPANCY_PERCENT}
 use Rattle.hcc_rule.specs.declared.key.Key.{Key}
@@ -19,6 +19,7 @@ use Rattle.hcc_cache.specs.declared.handle.Handle.{Handle}
 use Rattle.hcc_cache.specs.declared.inserting.Inserted.{Inserted}
 use Rattle.hcc_cache.specs.declared.inserting.Inserted.TheVariants.{Placed}
 use Rattle.hcc_cache.specs.declared.priority.Priority.{Priority}
+use Rattle.hcc_cache.specs.declared.walking.HeldEntry.{HeldEntry}
 use Rattle.hcc_cache.specs.Alones.{AreAlone}
 use Rattle.hcc_cache.specs.Calls.{AcquiresFor, AtShard, CountsAt, CountsBy, CountsNone, Erases, ErasesFor, Finds, GivesUp, KeepsAll, Misses, OnlyAt, Reads, Releases, Rerefs, SearchesFor, TakesAtMost, TakesFor, Works, shard_in}
 use Rattle.hcc_cache.specs.Clients.{Holds, held_by, held_of, view_at}
@@ -27,15 +28,19 @@ use Rattle.hcc_cache.specs.Inserts.{Inserts, InsertsAt, InsertsPinnedAt, Inserts
 use Rattle.hcc_cache.specs.Moments.{KnowsShown}
 use Rattle.hcc_cache.specs.Stays.{ReleasesIn, Stays, StaysWhereStanding}
 use Rattle.hcc_cache.specs.Totals.{CountsEach, LoadsEachOccupancy, LoadsEachUsage, LoadsUsages, SearchesAll, charge_by, entries_by, made_by, taken_by}
+use Rattle.hcc_table.specs.Readings.{part_in, words_across}
+use Rattle.hcc_cache.specs.Walked.{HoldsEntryAt, IsSlotIn, PassesAt}
 use Rattle.hcc_c.specs.declared.inserting.Unfit.{Unfit}
 use Rattle.hcc_c.specs.declared.inserting.Unfit.TheVariants as reason
 use Rattle.hcc_c.specs.declared.session.Session.{Session}
 use Rattle.hcc_c.specs.declared.shapes.Counts.{Counts}
 use Rattle.hcc_c.specs.declared.shapes.CHandle.{CHandle}
+use Rattle.hcc_c.specs.declared.shapes.CHeldEntry.{CHeldEntry}
+use Rattle.hcc_c.specs.declared.shapes.CPart.{CPart}
 use Rattle.hcc_c.specs.declared.shapes.Stats.{Stats}
 use Rattle.hcc_c.specs.Counts.{counted_get, counted_insert, counted_look, counted_pinned}
 use Rattle.hcc_c.specs.Sessions.{IsHandle, IsNone, any, handle_in, judged}
-use Rattle.hcc_c.specs.Shapes.{c_handle_of, stats_of}
+use Rattle.hcc_c.specs.Shapes.{c_handle_of, c_held_entry_of, stats_of}
 
 -- Nothing of the session changed but its client.
 abbrev pub KeepsRest : (old new : Session) → Type 0
@@ -66,6 +71,28 @@ pub record LooksUp (key : Key) (answer : Result (Option CHandle) LookupError) (o
       (shard_in (arc_value old.cache) key) old.client new.client)
   pub rest : KeepsCounting (counted_look answer old.counts) old new
   pub steps : TakesAtMost (7 * (arc_value old.cache).geometry.slots) old.client new.client
+
+-- The entry of a slot of a shard is held, where it is visible; none is where there is no such slot.
+pub record PinsAt (shard slot : ℕ) (answer : Result (Option CHeldEntry) LookupError)
+    (old new : Session) : Type 0 where
+  pub outside : ¬ IsSlotIn (arc_value old.cache) shard slot
+      → (answer ≡ Ok None) × (new.client ≡ old.client)
+  pub full : IsErrOf answer look.HandlesFull
+      ↔ (IsSlotIn (arc_value old.cache) shard slot × (held_by old.client ≡ old.client.most))
+  pub spent : IsErrOf answer look.Spent
+      ↔ (IsSlotIn (arc_value old.cache) shard slot × (held_by old.client < old.client.most)
+      × (old.client.left ≡ 0))
+  pub refused : OnErr answer (new ≡ old)
+  pub held : IfOk answer (λ o. IfSome o (λ told. (held : HeldEntry)
+      × HoldsEntryAt (arc_value old.cache) any shard slot held old.client new.client
+      × (told ≡ c_held_entry_of old.cache_number held)))
+  pub passed : IfOk answer (λ o. IfNone o (IsSlotIn (arc_value old.cache) shard slot
+      → PassesAt (arc_value old.cache) any shard slot false old.client new.client))
+  pub stays : Stays (arc_value old.cache) old.client new.client
+  pub counts : IfOk answer (λ _. IsSlotIn (arc_value old.cache) shard slot
+      → CountsAt shard old.client new.client)
+  pub rest : KeepsRest old new
+  pub steps : TakesAtMost 7 old.client new.client
 
 -- One handle more on the entry of the handle of these parts; none where it is that of none.
 pub record RefersAgain (c_handle : CHandle) (answer : Option (Result CHandle LookupError))
@@ -240,6 +267,23 @@ pub record ReadsValue (c_handle : CHandle) (answer : Option (Result ℕ ℕ)) (b
   pub steps : IfSome answer (λ a. IfOk a (λ len.
       TakesAtMost (words_for len + 1) old.client new.client))
   pub few : IfSome answer (λ a. IfErr a (λ len. TakesAtMost 1 old.client new.client))
+
+-- Bytes of a value are copied to the front of a buffer, from an offset on; none where the handle is
+-- that of none.
+pub record ReadsPart (c_handle : CHandle) (offset : ℕ) (answer : Option CPart)
+    (before after : List ℕ) (old new : Session) : Type 0 where
+  pub none : IfNone answer (IsNone old c_handle × (new ≡ old) × (after ≡ before))
+  pub given : IfSome answer (λ part.
+      part.given ≡ min (part.length - offset) (length before))
+  pub read : IfSome answer (λ part. (handle : Handle) × IsHandle old c_handle handle
+      × IfSome (held_of (arc_value old.cache) old.client handle) (λ held.
+      (part.length ≡ length held.insertion.value)
+      × (after ≡ part_in offset part.given held.insertion.value before)))
+  pub reads : IfSome answer (λ _. Reads (arc_value old.cache) old.client new.client)
+  pub stays : IfSome answer (λ _. Stays (arc_value old.cache) old.client new.client)
+  pub rest : KeepsRest old new
+  pub steps : IfSome answer (λ part.
+      TakesAtMost (words_across offset part.given + 1) old.client new.client)
 
 -- The value of a key is copied to the front of a buffer, if it isn't longer, with no handle.
 pub record GetsValue (key : Key) (useful : Bool) (answer : Got) (before after : List ℕ)

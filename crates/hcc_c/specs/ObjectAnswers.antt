@@ -1,7 +1,6 @@
 -- How C is told what a call of a cache of objects answers: the status, and what each output is.
 use Rattle.std.specs.Prelude.{ℕ, Bool, false, Option, Some, None, Result, Ok, Err}
 use Rattle.hcc_rule.specs.declared.key.Key.{Key as CacheKey}
-use Rattle.hcc_cache.specs.declared.errors.LookupError.{LookupError}
 use Rattle.hcc_cache.specs.declared.errors.ObjectError.{ObjectError}
 use Rattle.hcc_cache.specs.declared.errors.ObjectError.TheVariants as refusal
 use Rattle.hcc_cache.specs.declared.errors.ObjectNewError.{ObjectNewError}
@@ -9,29 +8,17 @@ use Rattle.hcc_cache.specs.declared.object_inserting.Placing.{Placing}
 use Rattle.hcc_cache.specs.declared.object_inserting.Placing.TheVariants.{Placed, Dropped, Standalone}
 use Rattle.hcc_cache.specs.declared.objects.Object.{Object}
 use Rattle.hcc_c.specs.declared.inserting.Unfit.{Unfit}
-use Rattle.hcc_c.specs.declared.object_shapes.CHeldObject.{CHeldObject}
 use Rattle.hcc_c.specs.declared.object_shapes.CObject.{CObject}
 use Rattle.hcc_c.specs.declared.shapes.CHandle.{CHandle}
 use Rattle.hcc_c.specs.declared.shapes.Key.{Key}
 use Rattle.hcc_c.specs.ObjectShapes.{c_object_of}
-use Rattle.hcc_c.specs.Refusals.{code_of, inserting_object_of, looking_of, opening_objects_of, placing_code, unfit_of}
+use Rattle.hcc_c.specs.Refusals.{code_of, inserting_object_of, opening_objects_of, placing_code, unfit_of}
 use Rattle.hcc_c.specs.Shapes.{words_of}
 
 -- a configuration that is judged
 abbrev pub status_of_checked : Result (Unit {0}) ObjectNewError → ℕ
 status_of_checked (Ok allowed) = 0
 status_of_checked (Err why) = code_of (opening_objects_of why)
-
--- what a look-up holds, and a walk at a slot
-abbrev pub status_of_held : Result (Option CHeldObject) LookupError → ℕ
-status_of_held (Ok None) = 1
-status_of_held (Ok (Some held)) = 0
-status_of_held (Err why) = code_of (looking_of why)
-
-abbrev pub held_or : Result (Option CHeldObject) LookupError → CHeldObject → CHeldObject
-held_or (Ok None) old = old
-held_or (Ok (Some held)) old = held
-held_or (Err why) old = old
 
 -- whether an answer says that the client's list is full; a refusal before any eviction doesn't say
 abbrev pub full_placed : Placing → Bool

@@ -83,8 +83,8 @@ pub record PinsAt (shard slot : ℕ) (answer : Result (Option CHeldObject) Looku
       × HoldsAt (below old) shard slot held (client_in old) (client_in new)
       × (told ≡ c_held_of old.cache_number held)))
   pub passed : IfOk answer (λ o. IfNone o (IsSlotIn (below old) shard slot
-      → PassesAt (below old) shard slot (takes_one (shelf_of old.client)) (client_in old)
-      (client_in new)))
+      → PassesAt (below old) is_word shard slot (takes_one (shelf_of old.client))
+      (client_in old) (client_in new)))
   pub list : IfOk answer (λ _. IsSlotIn (below old) shard slot
       → HandsAt (below old) (shelf_of old.client) (shelf_of new.client) shard (client_in old)
       (client_in new))

@@ -7,9 +7,11 @@ use Rattle.hcc_shard.specs.declared.seat.Stats.{Stats as CacheStats}
 use Rattle.hcc_cache.specs.declared.config.Config.{Config}
 use Rattle.hcc_cache.specs.declared.handle.Handle.{Handle}
 use Rattle.hcc_cache.specs.declared.handle.HandleParts.{HandleParts}
+use Rattle.hcc_cache.specs.declared.walking.HeldEntry.{HeldEntry}
 use Rattle.hcc_c.specs.declared.shapes.Entry.{Entry}
 use Rattle.hcc_c.specs.declared.shapes.Key.{Key}
 use Rattle.hcc_c.specs.declared.shapes.CHandle.{CHandle}
+use Rattle.hcc_c.specs.declared.shapes.CHeldEntry.{CHeldEntry}
 use Rattle.hcc_c.specs.declared.shapes.CConfig.{CConfig}
 use Rattle.hcc_c.specs.declared.shapes.Stats.{Stats}
 
@@ -25,6 +27,14 @@ c_handle_of cache handle = record {
   serial = handle.serial;
   client = handle.client;
   cache = cache;
+}
+
+abbrev pub c_held_entry_of : (cache : ℕ) → HeldEntry → CHeldEntry
+c_held_entry_of cache held = record {
+  handle = c_handle_of cache held.handle;
+  key = words_of held.key;
+  charge = held.charge;
+  uses = held.uses;
 }
 
 abbrev pub parts_in : CHandle → HandleParts

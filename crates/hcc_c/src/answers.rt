@@ -1,6 +1,6 @@
 //! How a call's result reaches C: by a status, and by outputs that stay if it is refused.
 ghost use Rattle.std.specs.Prelude.{◌≡◌, None};
-ghost use Rattle.hcc_c.specs.Answers.{beside_or, entry_or, given_or, handle_of_pinned, inserted_of, inserted_of_pinned, key_or, length_copied, length_got, length_of, more_of, c_handle_after, placed, placed_beside, status_of, status_of_copied, status_of_given, status_of_got, status_of_insert, status_of_left, status_of_look, status_of_pinned, status_of_read, status_of_reref, value_or};
+ghost use Rattle.hcc_c.specs.Answers.{beside_or, entry_or, found_or, given_or, handle_of_pinned, inserted_of, inserted_of_pinned, key_or, length_copied, length_got, length_of, more_of, placed, placed_beside, status_of, status_of_copied, status_of_given, status_of_got, status_of_insert, status_of_left, status_of_look, status_of_pinned, status_of_read, status_of_reref, value_or};
 
 use crate::closed::Left;
 use crate::image::Image;
@@ -44,14 +44,14 @@ pub(crate) fn told_key(answer: Option<hcc_cache::Key>, key: &mut Key) -> u32
     }
 }
 
-/// Gives C what a look-up returned.
-pub(crate) fn told_look(answer: Result<Option<CHandle>, LookupError>, handle: &mut CHandle) -> u32
+/// Gives C what a look-up found, or what it or a walk at a slot holds.
+pub(crate) fn told_look<T: Copy>(answer: Result<Option<T>, LookupError>, out: &mut T) -> u32
     ensures status { result ≡ status_of_look answer }
-    ensures handle { handle.new ≡ c_handle_after answer handle.old }
+    ensures found { out.new ≡ found_or answer out.old }
 {
     match answer {
-        Ok(Some(c_handle)) => {
-            *handle = c_handle;
+        Ok(Some(found)) => {
+            *out = found;
             DONE
         }
         Ok(None) => MISSED,

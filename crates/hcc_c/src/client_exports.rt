@@ -3,8 +3,8 @@
 ghost use Rattle.std.specs.Prelude.{◌≡◌, None, IfSome, true, false};
 ghost use Rattle.hcc_cache.specs.Clients.{held_by};
 ghost use Rattle.hcc_cache.specs.Totals.{no_stats, stats_over};
-ghost use Rattle.hcc_c.specs.Answers.{handle_of_pinned, inserted_of, inserted_of_pinned, key_or, length_got, length_of, more_of, c_handle_after, status_of, status_of_got, status_of_insert, status_of_look, status_of_pinned, status_of_read, status_of_reref, value_or};
-ghost use Rattle.hcc_c.specs.Calls.{GetsValue, GivesBack, Hides, LooksUp, Puts, PutsPinned, ReadsValue, RefersAgain, TellsDisplacement, TellsHandle, TellsKey, TellsLength, TellsOccupancy, TellsPinned, TellsStats, TellsUsage, TellsWord};
+ghost use Rattle.hcc_c.specs.Answers.{found_or, handle_of_pinned, inserted_of, inserted_of_pinned, key_or, length_got, length_of, more_of, status_of, status_of_got, status_of_insert, status_of_look, status_of_pinned, status_of_read, status_of_reref, value_or};
+ghost use Rattle.hcc_c.specs.Calls.{GetsValue, GivesBack, Hides, LooksUp, PinsAt, Puts, PutsPinned, ReadsPart, ReadsValue, RefersAgain, TellsDisplacement, TellsHandle, TellsKey, TellsLength, TellsOccupancy, TellsPinned, TellsStats, TellsUsage, TellsWord};
 ghost use Rattle.hcc_c.specs.Lending.{IsThere};
 ghost use Rattle.hcc_c.specs.Refusals.{code_of, priority_of};
 ghost use Rattle.hcc_c.specs.Sessions.{IsHandle, IsNone, IsWhole};
@@ -15,7 +15,7 @@ use crate::answers::{
 };
 use crate::objects::ClientObject;
 use crate::refusal::{Refusal, priority_of};
-use crate::shapes::{CHandle, Counts, Key, Stats};
+use crate::shapes::{CHandle, CHeldEntry, CPart, Counts, Key, Stats};
 use std::alloc::Global;
 
 #[unsafe(no_mangle)]
@@ -29,10 +29,28 @@ pub extern "C" fn ferretgold_raw_lookup(
     ensures whole { IsWhole client.new.value }
     ensures looks { (answer : _)
         × LooksUp (key_of key.now) answer client.old.value client.new.value
-        × (result ≡ status_of_look answer) × (handle.new ≡ c_handle_after answer handle.old) }
+        × (result ≡ status_of_look answer) × (handle.new ≡ found_or answer handle.old) }
 {
     let answer = client.session().lookup(key.key());
     told_look(answer, handle)
+}
+
+/// Holds the entry of a slot of a shard, where it is visible: so a program walks over a cache.
+#[unsafe(no_mangle)]
+pub extern "C" fn ferretgold_raw_pin_at(
+    client: &mut ClientObject,
+    shard: u32,
+    slot: u32,
+    held: &mut CHeldEntry,
+) -> u32
+    requires { IsWhole client.old.value }
+    ensures there { IsThere client.old client.new }
+    ensures whole { IsWhole client.new.value }
+    ensures pins { (answer : _) × PinsAt shard slot answer client.old.value client.new.value
+        × (result ≡ status_of_look answer) × (held.new ≡ found_or answer held.old) }
+{
+    let answer = client.session().pin_at(shard, slot);
+    told_look(answer, held)
 }
 
 #[unsafe(no_mangle)]
@@ -211,6 +229,26 @@ pub extern "C" fn ferretgold_raw_read_value(
 {
     let answer = client.session().read_value(*handle, buffer);
     told_read(answer, length)
+}
+
+#[unsafe(no_mangle)]
+pub extern "C" fn ferretgold_raw_read_part(
+    client: &mut ClientObject,
+    handle: &CHandle,
+    offset: usize,
+    buffer: &mut [u8],
+    part: &mut CPart,
+) -> u32
+    requires { IsWhole client.old.value }
+    ensures there { IsThere client.old client.new }
+    ensures whole { IsWhole client.new.value }
+    ensures reads { (answer : _)
+        × ReadsPart handle.now offset answer buffer.old buffer.new client.old.value
+        client.new.value
+        × (result ≡ status_of answer Refusal.NoHandle) × (part.new ≡ value_or answer part.old) }
+{
+    let answer = client.session().read_part(*handle, offset, buffer);
+    told(answer, Refusal::NoHandle, part)
 }
 
 #[unsafe(no_mangle)]

@@ -1,9 +1,9 @@
 //! Handles that are given by their parts, and given back.
-ghost use Rattle.hcc_c.specs.Calls.{GivesBack, Hides, LooksUp, RefersAgain, TellsHandle};
+ghost use Rattle.hcc_c.specs.Calls.{GivesBack, Hides, LooksUp, PinsAt, RefersAgain, TellsHandle};
 ghost use Rattle.hcc_c.specs.Sessions.{IsWhole};
 
 use crate::session::Session;
-use crate::shapes::CHandle;
+use crate::shapes::{CHandle, CHeldEntry};
 use hcc_cache::{Key, LookupError};
 
 impl Session {
@@ -23,6 +23,19 @@ impl Session {
                 self.counts.miss();
                 Ok(None)
             }
+        }
+    }
+
+    /// Holds the entry of a slot of a shard, as the cache does; none where there is no such slot.
+    /// It is no look-up: neither a hit nor a miss is counted.
+    pub fn pin_at(&mut self, shard: u32, slot: u32) -> Result<Option<CHeldEntry>, LookupError>
+        requires { IsWhole self.old }
+        ensures whole { IsWhole self.new }
+        ensures pins { PinsAt shard slot result self.old self.new }
+    {
+        match self.cache.pin_at(&mut self.client, shard, slot)? {
+            Some(held) => Ok(Some(CHeldEntry::of(self.cache_number, held))),
+            None => Ok(None),
         }
     }
 

@@ -46,4 +46,4 @@ pub use objects::{
     ImagePlace, objects_cross,
 };
 pub use refusal::Refusal;
-pub use shapes::{CConfig, CHandle, Counts, Entry, Key, Stats, Totals};
+pub use shapes::{CConfig, CHandle, CHeldEntry, CPart, Counts, Entry, Key, Stats, Totals};

@@ -2,36 +2,18 @@
 //! refused.
 ghost use Rattle.std.specs.Prelude.{◌≡◌, None};
 ghost use Rattle.hcc_c.specs.Answers.{placed, status_of_given};
-ghost use Rattle.hcc_c.specs.ObjectAnswers.{full_of, full_of_pinned, full_placed, full_refused, gone_key_or, gone_object_or, handle_of_pinned, held_or, placing_of, placing_of_pinned, status_of_gone, status_of_held, status_of_pinned, status_of_put};
+ghost use Rattle.hcc_c.specs.ObjectAnswers.{full_of, full_of_pinned, full_placed, full_refused, gone_key_or, gone_object_or, handle_of_pinned, placing_of, placing_of_pinned, status_of_gone, status_of_pinned, status_of_put};
 
 use crate::answers::{DONE, MISSED};
 use crate::inserting::Unfit;
 use crate::kept_objects::KeptObjects;
 use crate::object_holders::{KeptObjectsPlace, ObjectCachePlace};
 use crate::object_pool::ObjectPool;
-use crate::object_shapes::{CHeldObject, CObject};
+use crate::object_shapes::CObject;
 use crate::objects::Loose;
 use crate::refusal::{Refusal, placing_code};
 use crate::shapes::{CHandle, Key};
-use hcc_cache::{LookupError, Object, ObjectError, Placing};
-
-/// Gives C what a look-up, or a walk at a slot, holds.
-pub(crate) fn told_held(
-    answer: Result<Option<CHeldObject>, LookupError>,
-    held: &mut CHeldObject,
-) -> u32
-    ensures status { result ≡ status_of_held answer }
-    ensures held { held.new ≡ held_or answer held.old }
-{
-    match answer {
-        Ok(Some(found)) => {
-            *held = found;
-            DONE
-        }
-        Ok(None) => MISSED,
-        Err(why) => Refusal::looking(why).code(),
-    }
-}
+use hcc_cache::{Object, ObjectError, Placing};
 
 /// Gives C what came of an insertion.
 pub(crate) fn told_put(

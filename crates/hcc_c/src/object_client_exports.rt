@@ -3,8 +3,8 @@
 //! comes to.
 ghost use Rattle.std.specs.Prelude.{◌≡◌, None, IfSome};
 ghost use Rattle.hcc_cache.specs.ObjectsClosed.{untaken_of};
-ghost use Rattle.hcc_c.specs.Answers.{key_or, more_of, status_of, status_of_reref, value_or};
-ghost use Rattle.hcc_c.specs.ObjectAnswers.{full_of, full_of_pinned, gone_key_or, gone_object_or, handle_of_pinned, held_or, placing_of, placing_of_pinned, status_of_gone, status_of_held, status_of_pinned, status_of_put};
+ghost use Rattle.hcc_c.specs.Answers.{found_or, key_or, more_of, status_of, status_of_look, status_of_reref, value_or};
+ghost use Rattle.hcc_c.specs.ObjectAnswers.{full_of, full_of_pinned, gone_key_or, gone_object_or, handle_of_pinned, placing_of, placing_of_pinned, status_of_gone, status_of_pinned, status_of_put};
 ghost use Rattle.hcc_c.specs.ObjectCalls.{Charges, GivesBack, Hides, PinsAt, Puts, PutsPinned, RefersAgain, TakesGone, TellsCharge, TellsKey, TellsOccupancy, TellsPinned, TellsUsage};
 ghost use Rattle.hcc_c.specs.ObjectLending.{IsThere};
 ghost use Rattle.hcc_c.specs.ObjectSessions.{IsWhole};
@@ -12,8 +12,8 @@ ghost use Rattle.hcc_c.specs.ObjectShapes.{object_of};
 ghost use Rattle.hcc_c.specs.Refusals.{code_of, priority_of};
 ghost use Rattle.hcc_c.specs.Shapes.{key_of};
 
-use crate::answers::{DONE, told, told_key, told_reref};
-use crate::object_answers::{told_gone, told_held, told_put, told_put_pinned};
+use crate::answers::{DONE, told, told_key, told_look, told_reref};
+use crate::object_answers::{told_gone, told_put, told_put_pinned};
 use crate::object_holders::ObjectClientAt;
 use crate::object_shapes::{CHeldObject, CObject};
 use crate::refusal::{Refusal, priority_of};
@@ -30,10 +30,10 @@ pub extern "C" fn ferretgold_raw_object_hold(
     ensures whole { IsWhole client.new.value }
     ensures charges { (answer : _)
         × Charges (key_of held.old.key) answer client.old.value client.new.value
-        × (result ≡ status_of_held answer) × (held.new ≡ held_or answer held.old) }
+        × (result ≡ status_of_look answer) × (held.new ≡ found_or answer held.old) }
 {
     let answer = client.session().hold(held.key.key());
-    told_held(answer, held)
+    told_look(answer, held)
 }
 
 /// Holds the entry of a slot of a shard, where it is visible: so a program walks over a cache.
@@ -48,10 +48,10 @@ pub extern "C" fn ferretgold_raw_object_pin_at(
     ensures there { IsThere client.old client.new }
     ensures whole { IsWhole client.new.value }
     ensures pins { (answer : _) × PinsAt shard slot answer client.old.value client.new.value
-        × (result ≡ status_of_held answer) × (held.new ≡ held_or answer held.old) }
+        × (result ≡ status_of_look answer) × (held.new ≡ found_or answer held.old) }
 {
     let answer = client.session().pin_at(shard, slot);
-    told_held(answer, held)
+    told_look(answer, held)
 }
 
 #[unsafe(no_mangle)]

@@ -1,9 +1,9 @@
 //! What a client reads.
-ghost use Rattle.hcc_c.specs.Calls.{GetsValue, ReadsValue, TellsKey, TellsLength};
+ghost use Rattle.hcc_c.specs.Calls.{GetsValue, ReadsPart, ReadsValue, TellsKey, TellsLength};
 ghost use Rattle.hcc_c.specs.Sessions.{IsWhole};
 
 use crate::session::Session;
-use crate::shapes::CHandle;
+use crate::shapes::{CHandle, CPart};
 use hcc_cache::{Got, Key};
 
 impl Session {
@@ -44,6 +44,25 @@ impl Session {
     {
         let parts = self.parts(c_handle)?;
         self.cache.try_read(&mut self.client, parts, buffer)
+    }
+
+    /// Copies bytes of the value, from an offset on, to the front of the buffer: how many it gave,
+    /// and how many the value has. None where the client holds no handle of these parts.
+    pub fn read_part(
+        &mut self,
+        c_handle: CHandle,
+        offset: usize,
+        buffer: &mut [u8],
+    ) -> Option<CPart>
+        requires { IsWhole self.old }
+        ensures whole { IsWhole self.new }
+        ensures reads { ReadsPart c_handle offset result buffer.old buffer.new self.old self.new }
+    {
+        let parts = self.parts(c_handle)?;
+        let part = self
+            .cache
+            .try_read_part(&mut self.client, parts, offset, buffer)?;
+        Some(CPart::of(part))
     }
 
     /// Copies the value of a key to the front of the buffer, with no handle: how many bytes it has,

@@ -2,9 +2,11 @@
 ghost use Rattle.std.specs.Prelude.{◌≡◌, ◌^◌, ◌<◌, Ok};
 ghost use Rattle.hcc_cache.specs.Totals.{with_count};
 ghost use Rattle.hcc_c.specs.Counts.{counted_get, counted_insert, counted_pinned, no_counts, one_hit, one_miss};
-ghost use Rattle.hcc_c.specs.Shapes.{config_of, entry_of, key_of, c_handle_of, parts_in, stats_of, words_of};
+ghost use Rattle.hcc_c.specs.Shapes.{config_of, entry_of, key_of, c_handle_of, c_held_entry_of, parts_in, stats_of, words_of};
 
-use hcc_cache::{ClosedEntry, Config, Got, Handle, HandleParts, InsertError, Inserted};
+use hcc_cache::{
+    ClosedEntry, Config, Got, Handle, HandleParts, HeldEntry, InsertError, Inserted, Part,
+};
 use hcc_word::layout::VISIBLE;
 use hcc_word::{hit, releases, state};
 use std::mem::size_of;
@@ -13,6 +15,10 @@ use std::mem::size_of;
 const _: () = prove!(size_of::<Key>() == 16);
 
 const _: () = prove!(size_of::<CHandle>() == 24);
+
+const _: () = prove!(size_of::<CHeldEntry>() == 56);
+
+const _: () = prove!(size_of::<CPart>() == 16);
 
 const _: () = prove!(size_of::<CConfig>() == 48);
 
@@ -91,6 +97,53 @@ impl CHandle {
             client: self.client,
             index: self.index,
             serial: self.serial,
+        }
+    }
+}
+
+/// What a walk holds at a slot, as C keeps it: a handle on the entry there, and what its words say
+/// of it.
+#[derive(Clone, Copy, Debug, PartialEq, Eq)]
+#[repr(C)]
+pub struct CHeldEntry {
+    pub handle: CHandle,
+    pub key: Key,
+    pub charge: u64,
+    /// Its countdown.
+    pub uses: u32,
+}
+
+impl CHeldEntry {
+    /// That of what the cache of this number holds.
+    pub(crate) fn of(cache: u32, held: HeldEntry) -> CHeldEntry
+        ensures { result ≡ c_held_entry_of cache held }
+    {
+        CHeldEntry {
+            handle: CHandle::of(cache, held.handle),
+            key: Key::words(held.key),
+            charge: held.charge,
+            uses: held.uses,
+        }
+    }
+}
+
+/// What a reading of a part of a value gave, as C has it.
+#[derive(Clone, Copy, Debug, PartialEq, Eq)]
+#[repr(C)]
+pub struct CPart {
+    pub given: usize,
+    pub length: usize,
+}
+
+impl CPart {
+    /// That of what the cache gave.
+    pub(crate) fn of(part: Part) -> CPart
+        ensures given { result.given ≡ part.given }
+        ensures length { result.length ≡ part.length }
+    {
+        CPart {
+            given: part.given,
+            length: part.length,
         }
     }
 }

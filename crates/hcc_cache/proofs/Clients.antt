@@ -7,4 +7,6 @@ pub mod FoundAtEachShard
 pub mod LoadedTotals
 pub mod ShownAfterwards
 pub mod ShownSince
+pub mod ShownFound
+pub mod HeldThrough
 pub mod Unerased

@@ -4,3 +4,4 @@ pub mod ReadByHandle
 pub mod ReadByKey
 pub mod HeldAtSlots
 pub mod FoundAsMade
+pub mod WalkedSlots

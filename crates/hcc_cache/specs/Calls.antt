@@ -163,7 +163,7 @@ module _ {T : Type 0} (cache : Cache T) where
       AtShard (λ shard was is. (pin : Option Pin) × (looked : ShardSeat (Seeded T))
       × (is_some pin ≡ is_some found)
       × SearchesAt (fits_seeded fits) shard (key_to cache.seed key) old.used pin was looked
-      × ReadsOn shard looked is) (shard_in key) old new
+      × ReadsOn shard looked is × (view_of is ≡ view_of looked)) (shard_in key) old new
 
   -- The key was erased in its shard: what was found and hidden at each probe, so many in all, where
   -- the list of what is freed has room in the end, or not.

@@ -10,6 +10,7 @@ pub mod Known
 pub mod Opened
 pub mod Moments
 pub mod Since
+pub mod Following
 pub mod Within
 pub mod Calls
 pub mod Gone

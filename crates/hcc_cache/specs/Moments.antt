@@ -2,7 +2,7 @@
 use Rattle.std.specs.Prelude.{◌≡◌, ℕ, ◌<◌, ◌++◌, List, Some, option_and_then, slice_get}
 use Rattle.std.specs.declared.alloc.Global.{Global}
 use Rattle.hcc_core.specs.declared.slot.Entry.{Entry}
-use Rattle.hcc_core.specs.Runs.{entry_given, shows_of}
+use Rattle.hcc_core.specs.Runs.{entry_given, held_at, shows_of}
 use Rattle.hcc_rule.specs.declared.key.Key.{Key}
 use Rattle.hcc_rule.specs.declared.rule.Plan.{Plan}
 use Rattle.hcc_rule.specs.declared.view.Done.{Done}
@@ -83,3 +83,11 @@ pub record KnowsShown {T : Type 0} (cache : Cache T) (key : Key) (client : Clien
   pub slot : ℕ
   pub within : slot < cache.geometry.slots
   pub shows : ShowsKey (world_at shard.table seat.seat) (key_to cache.seed key) slot
+
+-- So it does, and it holds a reference of this name there.
+pub record KnowsHeld {T : Type 0} (cache : Cache T) (key : Key) (name : ℕ) (client : Client T)
+    : Type 0 where
+  pub shown : KnowsShown cache key client
+  pub entry : Entry
+  pub held : held_at (world_at shown.shard.table shown.seat.seat) (view_of shown.seat).client name
+      shown.slot ≡ Some entry

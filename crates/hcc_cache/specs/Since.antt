@@ -8,16 +8,19 @@ use Rattle.hcc_core.specs.Runs.{held_at, takes_away}
 use Rattle.hcc_core.specs.Shown.{shown_at}
 use Rattle.hcc_rule.specs.declared.key.Key.{Key}
 use Rattle.hcc_rule.specs.declared.view.Done.{Done}
-use Rattle.hcc_rule.specs.Acts.{client_by, events_of}
+use Rattle.hcc_rule.specs.Acts.{client_by, events_of, past}
 use Rattle.hcc_rule.specs.Callers.{world_at}
+use Rattle.hcc_rule.specs.Seats.{SeatOf}
 use Rattle.hcc_rule.specs.Shown.{IsTakenAway}
 use Rattle.hcc_rule.specs.Words.{key_of}
+use Rattle.hcc_table.specs.Standing.{IsMomentOf}
 use Rattle.hcc_shard.specs.declared.seat.ShardSeat.{ShardSeat}
+use Rattle.hcc_shard.specs.declared.shard.Shard.{Shard}
 use Rattle.hcc_shard.specs.Ended.{past_of}
 use Rattle.hcc_cache.specs.declared.cache.Cache.{Cache}
 use Rattle.hcc_cache.specs.declared.client.Client.{Client}
 use Rattle.hcc_cache.specs.declared.seeded.Seeded.{Seeded}
-use Rattle.hcc_cache.specs.Calls.{shard_in}
+use Rattle.hcc_cache.specs.Calls.{AtShard, shard_in}
 use Rattle.hcc_cache.specs.Moments.{KnowsShown}
 use Rattle.hcc_cache.specs.Sharding.{key_to}
 
@@ -71,3 +74,24 @@ module _ {T : Type 0} (cache : Cache T) (key : Key) where
   pub record IsHiddenByOther (old new : Client T) (k : KnowsShown cache key old) : Type 0 where
     pub taken : IsTakenByOther old new k
     pub hid : is_hide taken.since.taken.done.event ≡ true
+
+-- An entry of the key was shown at a moment of a call, and behind that another client took it away.
+pub record IsTakenBehind {T A : Type 0} (shard : Shard T A) (key : Key) (client : ℕ)
+    (was is : ShardSeat T) : Type 0 where
+  pub slot : ℕ
+  pub entry : Entry
+  pub asked : key_of entry ≡ key
+  pub moment : SeatOf T
+  pub at : IsMomentOf shard.table moment was.seat is.seat
+  pub shown : shown_at (world_at shard.table moment) slot ≡ Some entry
+  pub more : List Done
+  pub goes_on : past_of is ≡ past moment ++ more
+  pub taken : IsTakenAway slot entry (world_at shard.table moment) more
+  pub other : client_by taken.done.event ≢ client
+
+-- So it was of the key's shard.
+abbrev pub IsLostBehind : {T : Type 0} → Cache T → Key → (old new : Client T) → Type 0
+IsLostBehind cache key old new =
+    AtShard cache
+    (λ shard was is. IsTakenBehind shard (key_to cache.seed key) old.number was is)
+    (shard_in cache key) old new

@@ -2,7 +2,7 @@
 //!
 //! No function here does anything when it runs: its contract is the law. `m.holds.world` is the
 //! lawful world that the shard's words and what its clients know show.
-ghost use Rattle.std.specs.Prelude.{◌≡◌, ◌≢◌, ◌⊎◌, ℕ, ◌+◌, ◌-◌, ◌*◌, ◌/◌, ◌^◌, ◌<◌, ◌≤◌, ◌↔◌, ◌++◌, min, Bool, true, false, List, Option, None, Some, Ok, Result, IsNone, IsOk, IsSome, slice_get};
+ghost use Rattle.std.specs.Prelude.{◌≡◌, ◌≢◌, ◌⊎◌, ℕ, ◌+◌, ◌-◌, ◌*◌, ◌/◌, ◌^◌, ◌<◌, ◌≤◌, ◌↔◌, ◌++◌, min, Bool, true, false, List, Option, None, Some, Ok, Result, IsNone, IsOk, IsSome, IsSomeAnd, slice_get};
 ghost use Rattle.hcc_core.specs.declared.limits.TheConstants.{OCCUPANCY_PERCENT};
 ghost use Rattle.std.specs.List.{list_any};
 ghost use Rattle.hcc_core.specs.declared.slot.Entry.{Entry};
@@ -32,7 +32,8 @@ ghost use Rattle.hcc_shard.specs.declared.inserting.Inserted.{Inserted as Stored
 ghost use Rattle.hcc_shard.specs.declared.inserting.Inserted.TheVariants as stored;
 ghost use Rattle.hcc_shard.specs.declared.inserting.Pinned.{Pinned};
 ghost use Rattle.hcc_shard.specs.declared.inserting.Pinned.TheVariants as pinned;
-ghost use Rattle.hcc_table.specs.Standing.{shown_at, FindsFirst, FindsLasting, HidesShown, ShowsKey};
+ghost use Rattle.hcc_table.specs.AtSlots.{PinsLasting, ShowsNoneOnce};
+ghost use Rattle.hcc_table.specs.Standing.{shown_at, FindsFirst, FindsLasting, HidesShown, ShowsKey, ShowsOnce};
 ghost use Rattle.hcc_cache.specs.declared.cache.Cache.{Cache};
 ghost use Rattle.hcc_cache.specs.declared.client.Client.{Client};
 ghost use Rattle.hcc_cache.specs.declared.config.Config.{Config};
@@ -42,6 +43,7 @@ ghost use Rattle.hcc_cache.specs.declared.inserting.Inserted.{Inserted};
 ghost use Rattle.hcc_cache.specs.declared.inserting.Inserted.TheVariants.{Placed};
 ghost use Rattle.hcc_cache.specs.declared.priority.Priority.{Priority};
 ghost use Rattle.hcc_cache.specs.declared.seeded.Seeded.{Seeded};
+ghost use Rattle.hcc_cache.specs.declared.walking.HeldEntry.{HeldEntry};
 ghost use Rattle.hcc_cache.specs.declared.holding.Hold.{Hold};
 ghost use Rattle.hcc_cache.specs.Calls.{shard_in, ErasesFor, Gains, OnlyAt, SearchesFor, SearchesReadingFor};
 ghost use Rattle.hcc_cache.specs.Clients.{view_at, Held, Holds};
@@ -61,6 +63,7 @@ ghost use Rattle.hcc_cache.specs.Since.{is_hide, GoesOnAt, IsHeldThrough, IsHidd
 ghost use Rattle.hcc_cache.specs.Stays.{BeganEachWithin, ReleasesIn, ReleasesPin, Stays, StaysWhereStanding};
 ghost use Rattle.hcc_cache.specs.Taken.{split_of};
 ghost use Rattle.hcc_cache.specs.Totals.{occupancy_in, usage_in, KnowsEach, LoadsEachOccupancy, LoadsEachUsage};
+ghost use Rattle.hcc_cache.specs.Walked.{HoldsEntryAt, PassesAt};
 
 use crate::seeded::Seeded;
 use hcc_rule::Tag;
@@ -292,6 +295,32 @@ pub fn law_lookups<T: Tag>()
     law_found_alone::<Seeded<T>, Global>();
 }
 
+/// A walk that comes to a slot holds what stands there, whatever other clients do meanwhile.
+pub fn law_walks<T: Tag>()
+    // One that holds nothing, and keeps no list: the slot showed nothing at some moment of the
+    // call, right behind one of its own steps. So no entry stood visible there through the whole
+    // call.
+    ensures passed { (cache : Cache T) (shard slot : ℕ) (old new : Client T)
+        (h : PassesAt cache T.fits shard slot false old new)
+        → ShowsNoneOnce h.walks.shard.table slot h.walks.was.seat h.walks.is.seat }
+
+    // One that holds the entry: at some moment the very entry that the client holds under the
+    // handle's serial was visible there.
+    ensures held { (cache : Cache T) (shard slot : ℕ) (held : HeldEntry) (old new : Client T)
+        (h : HoldsEntryAt cache T.fits shard slot held old new)
+        → IsSomeAnd (record_in old.used (view h.walks.did.held.seat).records)
+        (λ r. ShowsOnce h.walks.shard.table slot r.entry h.walks.was.seat
+        h.walks.did.held.seat) }
+
+    // One that holds nothing, and has a list, as one over objects: so it is where it freed nothing.
+    // Where it freed an entry, the slot showed nothing at some moment, and then that entry was
+    // taken, on which no client held a reference.
+    ensures listed { (cache : Cache T) (shard slot : ℕ) (takes : Bool) (old new : Client T)
+        (h : PassesAt cache T.fits shard slot takes old new)
+        → PinsLasting h.walks.shard.table slot old.used h.walks.did.done h.walks.was.seat
+        h.walks.did.mid }
+{}
+
 /// What a client knows to be shown, with any number of clients: it stays shown until an event hides
 /// it, or frees its slot.
 ///
@@ -299,11 +328,12 @@ pub fn law_lookups<T: Tag>()
 /// opened, new or with an image.
 pub fn law_shown_since<T: Tag>()
     // What the client knows of the key's shard goes on by events, its own and those of others: it
-    // knows the key to be shown still, or one of these events took the entry away.
+    // knows the same slot to show the key still, or one of these events took the entry away.
     ensures since { (cache : Cache T) → BeganEachWithin cache T.fits → (key : Key)
         (old new : Client T) (g : GoesOnAt (shard_in cache key) old new)
         (k : KnowsShown cache key old)
-        → KnowsShown cache key new ⊎ IsTakenSince cache key old k g.more }
+        → ((now : KnowsShown cache key new) × (now.slot ≡ k.slot))
+        ⊎ IsTakenSince cache key old k g.more }
 
     // What was taken away so its slot doesn't show again.
     ensures gone { (cache : Cache T) → BeganEachWithin cache T.fits → (key : Key)

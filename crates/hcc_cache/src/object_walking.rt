@@ -6,7 +6,7 @@ ghost use Rattle.hcc_cache.specs.Alones.{AreAlone};
 ghost use Rattle.hcc_cache.specs.Calls.{CountsAt, HandsAt, TakesAtMost};
 ghost use Rattle.hcc_cache.specs.Clients.{held_by};
 ghost use Rattle.hcc_cache.specs.Known.{Knows};
-ghost use Rattle.hcc_cache.specs.Objects.{KnowsObjects, shelf_of};
+ghost use Rattle.hcc_cache.specs.Objects.{KnowsObjects, is_word, shelf_of};
 ghost use Rattle.hcc_cache.specs.Walked.{HoldsAt, IsSlotIn, PassesAt, shelf_in};
 
 use crate::cache::Cache;
@@ -62,7 +62,7 @@ impl ObjectCache {
         ensures held { IfOk result (λ o. IfSome o (λ held.
             HoldsAt self.now.cache shard slot held client.old.client client.new.client)) }
         ensures passed { IfOk result (λ o. IfNone o (IsSlotIn self.now.cache shard slot
-            → PassesAt self.now.cache shard slot (takes_one (shelf_of client.old))
+            → PassesAt self.now.cache is_word shard slot (takes_one (shelf_of client.old))
             client.old.client client.new.client)) }
         ensures list { IfOk result (λ _. IsSlotIn self.now.cache shard slot
             → HandsAt self.now.cache (shelf_of client.old) (shelf_of client.new) shard
@@ -98,7 +98,7 @@ impl Cache<Objects> {
         ensures known { Knows self.now client.new }
         ensures held { IfSome result (λ held.
             HoldsAt self.now number slot held client.old client.new) }
-        ensures passed { IfNone result (PassesAt self.now number slot
+        ensures passed { IfNone result (PassesAt self.now is_word number slot
             (takes_one (shelf_in list.old)) client.old client.new) }
         ensures list { HandsAt self.now (shelf_in list.old) (shelf_in list.new) number
             client.old client.new }

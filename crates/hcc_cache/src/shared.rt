@@ -1,11 +1,12 @@
 //! What calls do in a cache that clients share, whatever others do meanwhile.
 //!
 //! No function here does anything when it runs: its contract is the law.
-ghost use Rattle.std.specs.Prelude.{◌≡◌, ◌⊎◌, ℕ, ◌-◌, ◌^◌, ◌<◌, min, Bool, List, None, Result, Some};
+ghost use Rattle.std.specs.Prelude.{◌≡◌, ◌⊎◌, ℕ, ◌-◌, ◌^◌, ◌<◌, ◌++◌, min, Bool, List, None, Result, Some};
 ghost use Rattle.std.specs.declared.alloc.Global.{Global};
 ghost use Rattle.hcc_core.specs.Sums.{total};
 ghost use Rattle.hcc_core.specs.World.{standing_in};
 ghost use Rattle.hcc_rule.specs.declared.key.Key.{Key};
+ghost use Rattle.hcc_rule.specs.declared.view.Done.{Done};
 ghost use Rattle.hcc_rule.specs.Callers.{slots_of, world_at};
 ghost use Rattle.hcc_charge.specs.declared.reserving.Refused.{Refused};
 ghost use Rattle.hcc_shard.specs.declared.inserting.Inserted.{Inserted as Stored};
@@ -15,22 +16,27 @@ ghost use Rattle.hcc_shard.specs.declared.shard.Shard.{Shard};
 ghost use Rattle.hcc_shard.specs.Counted.{CountsPinned};
 ghost use Rattle.hcc_cache.specs.declared.cache.Cache.{Cache};
 ghost use Rattle.hcc_cache.specs.declared.client.Client.{Client};
+ghost use Rattle.hcc_cache.specs.declared.handle.Handle.{Handle};
 ghost use Rattle.hcc_cache.specs.declared.priority.Priority.{Priority};
 ghost use Rattle.hcc_cache.specs.declared.seeded.Seeded.{Seeded};
-ghost use Rattle.hcc_cache.specs.Calls.{ErasesListed};
+ghost use Rattle.hcc_cache.specs.Calls.{shard_in, ErasesListed, SearchesFor, SearchesReadingFor};
+ghost use Rattle.hcc_cache.specs.Following.{OnlyLoads};
 ghost use Rattle.hcc_cache.specs.Inserts.{draft_of, PinsAtListed, StoresAtListed};
 ghost use Rattle.hcc_cache.specs.Keys.{fits_seeded};
 ghost use Rattle.hcc_cache.specs.Known.{Knows};
 ghost use Rattle.hcc_cache.specs.Met.{MetAs, MetPinnedAs, ShortAs, ShortPinnedAs};
-ghost use Rattle.hcc_cache.specs.Moments.{KnowsShown};
+ghost use Rattle.hcc_cache.specs.Moments.{KnowsHeld, KnowsShown};
 ghost use Rattle.hcc_cache.specs.Room.{TurnsNone};
 ghost use Rattle.hcc_cache.specs.Sharding.{key_to};
-ghost use Rattle.hcc_cache.specs.Since.{IsTakenBetween};
+ghost use Rattle.hcc_cache.specs.Since.{GoesOnAt, IsHeldThrough, IsLostBehind, IsTakenBetween};
 ghost use Rattle.hcc_cache.specs.Stays.{BeganEachWithin};
 ghost use Rattle.hcc_cache.specs.Totals.{occupancy_in, usage_in, KnowsEach, LoadsEachOccupancy, LoadsEachUsage};
 ghost use Rattle.hcc_cache.specs.Within.{LacksWithin};
 
+use crate::seeded::Seeded;
 use hcc_rule::Tag;
+use hcc_table::laws::law_lasting;
+use std::alloc::Global;
 
 /// Totals are those of a moment: what a load finds at a shard is that of the world right behind it.
 pub fn law_loaded<T: Tag>()
@@ -55,6 +61,40 @@ pub fn law_loaded<T: Tag>()
     ensures standing { (shard : Shard (Seeded T) Global) (found : ℕ)
         (was is : ShardSeat (Seeded T)) (h : CountsPinned (fits_seeded T.fits) shard found was is)
         → h.standing ≡ standing_in (world_at shard.table h.loaded) }
+{}
+
+/// What a look-up finds its client knows to be shown, and holds.
+pub fn law_found<T: Tag>()
+    // At the end of the call it knows the key to be shown in the slot where it holds a reference,
+    // by the serial that the call used; or another client took away what the look-up found, behind
+    // the moment of the call at which it was shown.
+    ensures held { (cache : Cache T) → BeganEachWithin cache T.fits → (key : Key)
+        (handle : Handle) (old new : Client T) → Knows cache old
+        → SearchesFor cache T.fits key (Some handle) old new
+        → KnowsHeld cache key old.used new ⊎ IsLostBehind cache key old new }
+
+    // So it is of one that reads what it found, as in a cache of objects.
+    ensures held_read { (cache : Cache T) → BeganEachWithin cache T.fits → (key : Key)
+        (handle : Handle) (old new : Client T) → Knows cache old
+        → SearchesReadingFor cache T.fits key (Some handle) old new
+        → KnowsHeld cache key old.used new ⊎ IsLostBehind cache key old new }
+{
+    law_lasting::<Seeded<T>, Global>();
+}
+
+/// What a client holds it holds through all that others do until its own next step.
+pub fn law_held_through<T: Tag>()
+    // The client held a reference where it knew a key to be shown, and its next step was that of
+    // following a witness. Another one knew the same slot to show the key at a moment between, and
+    // some events behind that, which the client knew in the end: through these the reference was
+    // held.
+    ensures { (cache : Cache T) → BeganEachWithin cache T.fits → (key : Key) (name : ℕ)
+        (old new : Client T) → Knows cache old → (k : KnowsHeld cache key name old)
+        → OnlyLoads cache (shard_in cache key) old new
+        → (other : Client T) (m : KnowsShown cache key other) → m.slot ≡ k.shown.slot
+        → GoesOnAt (shard_in cache key) old other
+        → (h : GoesOnAt (shard_in cache key) other new) (more later : List Done)
+        → h.more ≡ more ++ later → IsHeldThrough cache key other m more }
 {}
 
 /// An erasure takes away what stands through it.

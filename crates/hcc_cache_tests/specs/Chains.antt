@@ -16,10 +16,10 @@ use Rattle.hcc_cache.specs.Calls.{ErasesFor, SearchesFor, shard_in}
 use Rattle.hcc_cache.specs.Gets.{GetsAt}
 use Rattle.hcc_cache.specs.Inserts.{StoresAt, draft_of}
 use Rattle.hcc_cache.specs.Met.{MetAs, ShortAs}
-use Rattle.hcc_cache.specs.Moments.{HoldsAsShown, KnowsShown}
+use Rattle.hcc_cache.specs.Moments.{HoldsAsShown, KnowsHeld, KnowsShown}
 use Rattle.hcc_cache.specs.Room.{KeepsAs, TurnsNone}
 use Rattle.hcc_cache.specs.Sharding.{key_to}
-use Rattle.hcc_cache.specs.Since.{GoesOnAt, IsHeldThrough, IsHiddenByOther, IsTakenBetween, IsTakenByOther}
+use Rattle.hcc_cache.specs.Since.{GoesOnAt, IsHeldThrough, IsHiddenByOther, IsLostBehind, IsTakenBetween, IsTakenByOther, IsTakenSince, is_hide}
 use Rattle.hcc_cache.specs.Undisturbed.{IsUndisturbed}
 use Rattle.hcc_cache.specs.Within.{LacksWithin}
 
@@ -49,6 +49,38 @@ module _ {T : Type 0} (cache : Cache T) (key : Key) (client : Client T) where
     pub hidden : (g : GoesOnAt (shard_in cache key) lost.before client)
         → IsHeldThrough cache key lost.before lost.knew g.more
         → IsHiddenByOther cache key lost.before client lost.knew
+
+  -- The client knew the key to be shown, and somebody took that entry away since.
+  pub record IsTakenOnTheWay : Type 0 where
+    pub before : Client T
+    pub knew : KnowsShown cache key before
+    pub goes : GoesOnAt (shard_in cache key) before client
+    pub taken : IsTakenSince cache key before knew goes.more
+
+  -- Another client, the giver, knew the key to be shown. The client was told of it, at one moment:
+  -- by then somebody had taken that entry away, or another client took it away since.
+  pub record IsLostOnTheWay (giver : Client T) : Type 0 where
+    pub knew : KnowsShown cache key giver
+    pub told : Client T
+    pub goes : GoesOnAt (shard_in cache key) giver told
+    pub lost : IsTakenSince cache key giver knew goes.more ⊎ IsLost
+
+  -- Another client, the holder, found the key and held that until the end. By the time when the
+  -- client was told of it, somebody had hidden the entry.
+  pub record IsHiddenBefore (holder told : Client T) : Type 0 where
+    pub name : ℕ
+    pub knew : KnowsHeld cache key name holder
+    pub goes : GoesOnAt (shard_in cache key) holder told
+    pub taken : IsTakenSince cache key holder knew.shown goes.more
+    pub hid : is_hide taken.taken.done.event ≡ true
+
+  -- Or somebody took it away while the holder looked for it; or it was hidden while the client did.
+  pub record IsHiddenFrom : Type 0 where
+    pub before : Client T
+    pub holder : Client T
+    pub told : Client T
+    pub how : IsLostBehind cache key before holder ⊎ IsHiddenBefore holder told
+        ⊎ ((knew : KnowsShown cache key told) × IsHiddenByOther cache key told client knew)
 
   -- The client knew the key to be shown. It or another client took that entry away since, and its
   -- slot doesn't show it.

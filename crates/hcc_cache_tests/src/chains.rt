@@ -15,16 +15,16 @@ ghost use Rattle.hcc_cache.specs.Moments.{KnowsShown};
 ghost use Rattle.hcc_cache.specs.Stays.{BeganEachWithin};
 ghost use Rattle.hcc_cache.specs.Taken.{split_of};
 ghost use Rattle.hcc_cache.specs.Totals.{usage_in, KnowsEach};
-ghost use Rattle.hcc_cache_tests.specs.Chains.{ErasedInQuiet, ErasedOnce, FoundAsShown, FoundInQuiet, HasMet, HasTurned, IsGone, IsLost, IsLostOrHidden, IsStorable, KeptInQuiet, ReadOnce};
+ghost use Rattle.hcc_cache_tests.specs.Chains.{ErasedInQuiet, ErasedOnce, FoundAsShown, FoundInQuiet, HasMet, HasTurned, IsGone, IsHiddenFrom, IsLost, IsLostOnTheWay, IsLostOrHidden, IsStorable, IsTakenOnTheWay, KeptInQuiet, ReadOnce};
 
 use hcc_cache::laws::{law_lookups, law_shown_since};
-use hcc_cache::shared::{law_erased, law_loaded, law_met, law_turned};
+use hcc_cache::shared::{law_erased, law_found, law_held_through, law_loaded, law_met, law_turned};
 use hcc_cache::undisturbed::{
     law_undisturbed_erasures, law_undisturbed_insertions, law_undisturbed_lookups,
 };
 use hcc_cache::{
     Cache, Client, Config, Got, Handle, InsertError, Inserted, Key, LookupError, NewError,
-    Priority, Saved, Tag,
+    Priority, Saved, Tag, law_told,
 };
 use std::alloc::Global;
 
@@ -89,6 +89,31 @@ pub fn stays_shown<T: Tag + Copy>(
     Ok((cache, client, stored))
 }
 
+/// What a client placed it knows to be shown behind its own insertions, too, unless it was taken
+/// away: it follows its own witness.
+pub fn stays_shown_through_insertions<T: Tag + Copy>(
+    alloc: Global,
+    config: Config,
+    tag: T,
+    key: Key,
+    other: Key,
+    value: &[u8],
+    charge: u32,
+) -> Result<(Cache<T>, Client<T>, Stored), NewError>
+    requires first { IsStorable T.fits config tag key value.now charge }
+    requires second { IsStorable T.fits config tag other value.now charge }
+    ensures { IfOk result (λ end. end.2 ≡ Ok Inserted.Placed
+        → KnowsShown end.0 key end.1 ⊎ IsTakenOnTheWay end.0 key end.1) }
+{
+    let (cache, mut client, _, stored) = begun(alloc, config, tag, key, value, charge)?;
+    let witness = cache.witness(&mut client, key);
+    let _ = cache.insert(&mut client, other, value, charge, Priority::Low);
+    cache.follow(&mut client, witness);
+    law_told::<T>();
+    law_shown_since::<T>();
+    Ok((cache, client, stored))
+}
+
 /// What a client placed it finds, until another client takes it away: by a hide, if somebody holds
 /// it all the while.
 pub fn finds_its_own<T: Tag + Copy>(
@@ -109,6 +134,57 @@ pub fn finds_its_own<T: Tag + Copy>(
     law_lookups::<T>();
     law_shown_since::<T>();
     Ok((cache, client, stored, found))
+}
+
+/// What a client placed another client finds that it told, until somebody takes it away.
+pub fn finds_what_it_was_told<T: Tag + Copy>(
+    alloc: Global,
+    config: Config,
+    tag: T,
+    key: Key,
+    value: &[u8],
+    charge: u32,
+) -> Result<(Cache<T>, Client<T>, Client<T>, Stored, Found), NewError>
+    requires { IsStorable T.fits config tag key value.now charge }
+    ensures { IfOk result (λ end. end.3 ≡ Ok Inserted.Placed → end.4 ≡ Ok None
+        → IsLostOnTheWay end.0 key end.2 end.1) }
+{
+    let (cache, mut first, mut second, stored) = begun(alloc, config, tag, key, value, charge)?;
+    let witness = cache.witness(&mut first, key);
+    cache.follow(&mut second, witness);
+    let found = cache.lookup(&mut second, key);
+    law_told::<T>();
+    law_lookups::<T>();
+    law_shown_since::<T>();
+    Ok((cache, first, second, stored, found))
+}
+
+/// What a client found, and holds, another client finds that it told, until somebody hides it.
+pub fn finds_what_another_holds<T: Tag + Copy>(
+    alloc: Global,
+    config: Config,
+    tag: T,
+    key: Key,
+    value: &[u8],
+    charge: u32,
+) -> Result<(Cache<T>, Client<T>, Found, Found), NewError>
+    requires { IsStorable T.fits config tag key value.now charge }
+    ensures { IfOk result (λ end. (handle : Handle) → end.2 ≡ Ok (Some handle)
+        → end.3 ≡ Ok None → IsHiddenFrom end.0 key end.1) }
+{
+    let (cache, mut first, mut second, _) = begun(alloc, config, tag, key, value, charge)?;
+    let held = cache.lookup(&mut second, key);
+    let of_second = cache.witness(&mut second, key);
+    cache.follow(&mut first, of_second);
+    let found = cache.lookup(&mut first, key);
+    let of_first = cache.witness(&mut first, key);
+    cache.follow(&mut second, of_first);
+    law_told::<T>();
+    law_found::<T>();
+    law_held_through::<T>();
+    law_lookups::<T>();
+    law_shown_since::<T>();
+    Ok((cache, first, held, found))
 }
 
 /// What a client placed it reads by its key, until another client takes it away. What it reads was

@@ -4,6 +4,7 @@ pub mod Fronts
 pub mod Lifts
 pub mod Openings
 pub mod Splits
+pub mod Witnesses
 pub mod Dealing
 pub mod Joins
 pub mod Newest

@@ -172,6 +172,14 @@ module _ {T : Type 0} where
   abbrev pub past : SeatOf T → List Done
   past seat = seat.me.0.past
 
+  -- what it was told of that by the witness that it followed last
+  abbrev pub heard : SeatOf T → List Done
+  heard seat = seat.me.0.heard
+
+  -- the seat once it was told this
+  abbrev pub told : List Done → SeatOf T → SeatOf T
+  told history seat = record seat { me = (record seat.me.0 { heard = history }, seat.me.1) }
+
   -- The machine allows these one after another, from the world with which a shard of this plan
   -- begins, and trails are kept on the way.
   pub record IsAllowed (p : Plan T) (history : List Done) : Type 0 where

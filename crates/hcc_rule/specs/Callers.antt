@@ -1,5 +1,5 @@
 -- What callers say of a table, by its public value alone, and of the view of a seat at it.
-use Rattle.std.specs.Prelude.{◌≡◌, ℕ, ◌<◌, Bool, IsSomeAnd}
+use Rattle.std.specs.Prelude.{◌≡◌, ℕ, ◌<◌, Bool, [], IsSomeAnd}
 use Rattle.atomic_table.specs.Seated.{TableId}
 use Rattle.hcc_core.specs.World.{State}
 use Rattle.hcc_rule.specs.declared.addresses.SlotAt.{SlotAt}
@@ -9,7 +9,8 @@ use Rattle.hcc_rule.specs.declared.rule.Plan.{Plan}
 use Rattle.hcc_rule.specs.declared.table.RuleTable.{RuleTable}
 use Rattle.hcc_rule.specs.declared.view.Done.{Done}
 use Rattle.hcc_rule.specs.declared.view.View.{View}
-use Rattle.hcc_rule.specs.Acts.{IsAllowed, IsNext, past, world_of}
+use Rattle.hcc_rule.specs.Acts.{IsAllowed, IsNext, heard, past, world_of}
+use Rattle.hcc_rule.specs.PassedLogs.{witness_logged}
 use Rattle.hcc_rule.specs.Seats.{SeatOf, IsSeatOf}
 use Rattle.hcc_rule.specs.Records.{record_in}
 use Rattle.hcc_rule.specs.Words.{field_at}
@@ -44,6 +45,11 @@ module _ {T A : Type 0} where
   -- a seat at this table that stands for a client
   abbrev pub IsSeatAt : RuleTable T A → SeatOf T → Type 0
   IsSeatAt table seat = IsSeatOf (id_of table) (plan_of table).tag seat
+
+  -- a witness at this table: it stands for no client, and tells what its giver knew
+  pub record IsWitnessAt (table : RuleTable T A) (seat : SeatOf T) : Type 0 where
+    pub table_is : seat.table_id ≡ id_of table
+    pub witness : seat.me ≡ (witness_logged (heard seat), [])
 
   -- the seat's step was this event with this reply, and the machine allows all that the seat knows
   abbrev pub IsEvent : RuleTable T A → Done → (old new : SeatOf T) → Type 0

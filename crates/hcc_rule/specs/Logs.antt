@@ -45,6 +45,10 @@ module _ {T : Type 0} where
   abbrev pub moves_in : table.State (Unit {0}) (Logged T) → ℕ
   moves_in s = total moves_of s.views
 
+  -- what a seat was told is a front of this history
+  abbrev pub HasHeard : List Done → Logged T → Type 0
+  HasHeard history l = (more : List Done) × (history ≡ l.heard ++ more)
+
   -- Words and views meet the rule, whatever steps were made; as long as there was none, the words
   -- are those with which the shard began. The world that they show is where a history leads, from
   -- the world that the shard began with, of which each seat knows a front, and one all steps.
@@ -61,10 +65,12 @@ module _ {T : Type 0} where
     pub fronts : (j : ℕ) (l : Logged T) → slice_get s.views j ≡ Some l
         → IsFront p.geometry.clients history l
     pub known : IsKnown history s.views
+    -- what a seat was told is a front of the history
+    pub heard : (j : ℕ) (l : Logged T) → slice_get s.views j ≡ Some l → HasHeard history l
 
   -- a view with these steps, of a seat that took in none and knows no history
   abbrev pub logged : View T → List Atomic → Logged T
-  logged v steps = record { known = v; steps = steps; past = []; taken_in = 0 }
+  logged v steps = record { known = v; steps = steps; past = []; taken_in = 0; heard = [] }
 
   abbrev pub first_logged : Plan T → Logged T
   first_logged p = logged (opening_view p) []
@@ -100,6 +106,10 @@ module _ {T : Type 0} where
   Sees fits p address found old new =
       old.past ≢ new.past → Shows fits p address found (world_of p new.past)
 
+  -- what a seat knows after a load that is an event goes on from what it was told
+  abbrev pub Hears : (old new : Logged T) → Type 0
+  Hears old new = old.past ≢ new.past → (more : List Done) × (new.past ≡ old.heard ++ more)
+
   -- what a load tells
   abbrev pub Loads : (T → Key → List ℕ → Type 0) → Plan T
       → (table.Step (Unit {0}) → Held T → ℕ → Held T → Option Done → Type 0)
@@ -107,6 +117,7 @@ module _ {T : Type 0} where
       → table.Me (Unit {0}) (Logged T) → Type 0
   Loads fits p then step me found after =
       Logs p then step me found after × Sees fits p step.word found me.0 after.0
+      × Hears me.0 after.0
 
   -- a step that tells nothing
   abbrev pub silent : table.Step (Unit {0}) → table.Me (Unit {0}) (Logged T) → ℕ

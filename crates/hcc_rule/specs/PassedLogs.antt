@@ -1,5 +1,6 @@
--- The steps of seats that are split and joined.
-use Rattle.std.specs.Prelude.{◌+◌, []}
+-- The steps of seats that are split and joined, and witnesses.
+use Rattle.std.specs.Prelude.{◌+◌, List, []}
+use Rattle.hcc_rule.specs.declared.view.Done.{Done}
 use Rattle.hcc_rule.specs.declared.view.Logged.{Logged}
 use Rattle.hcc_rule.specs.Acts.{longer}
 use Rattle.hcc_rule.specs.Passing.{left_view, right_view, joined_view, spent_view}
@@ -22,7 +23,22 @@ module _ {T : Type 0} where
     steps = l.steps;
     past = longer l.past m.past;
     taken_in = l.taken_in + moves_of m;
+    heard = l.heard;
   }
 
   abbrev pub spent_logged : Logged T
   spent_logged = logged spent_view []
+
+  -- A witness stands for no client and has made no step. It tells all that its giver knew of the
+  -- history, and is spent where it was heard.
+  abbrev pub witness_logged : List Done → Logged T
+  witness_logged told = record (logged spent_view []) { heard = told }
+
+  abbrev pub giver_logged : Logged T → Logged T
+  giver_logged l = l
+
+  abbrev pub given_logged : Logged T → Logged T
+  given_logged l = witness_logged l.past
+
+  abbrev pub told_logged : Logged T → Logged T → Logged T
+  told_logged l m = record l { heard = m.heard }

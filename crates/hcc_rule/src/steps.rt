@@ -2,6 +2,7 @@
 mod bits;
 mod counters;
 mod does;
+mod following;
 mod frees;
 mod glimpses;
 mod hand;
@@ -15,5 +16,5 @@ mod shows;
 mod standing;
 mod trails;
 
-pub(crate) use does::{Does, End, Start};
+pub(crate) use does::{Does, End, Hear, Start, Tell};
 pub use shows::Draft;

@@ -126,4 +126,6 @@ pub struct Logged<T> {
     pub past: LinkedList<Done>,
     /// How many steps the seats made that it took in, with those that they took in.
     pub taken_in: u64,
+    /// What it was told of the history by the witness that it followed last.
+    pub heard: LinkedList<Done>,
 }

@@ -10,16 +10,16 @@ ghost use Rattle.std.specs.Slots.{slots_items, slots_len, IsFull};
 ghost use Rattle.atomic_table.specs.Table.{opening, Final, Seen};
 ghost use prog.Atomic.{either};
 ghost use Rattle.hcc_rule.specs.declared.view.Other.{Other};
-ghost use Rattle.hcc_rule.specs.Acts.{longer, past};
-ghost use Rattle.hcc_rule.specs.Callers.{plan_of, IsSeatAt};
-ghost use Rattle.hcc_rule.specs.Logs.{HoldsLogged, Sees, first_logged};
+ghost use Rattle.hcc_rule.specs.Acts.{heard, longer, past, told};
+ghost use Rattle.hcc_rule.specs.Callers.{plan_of, IsSeatAt, IsWitnessAt};
+ghost use Rattle.hcc_rule.specs.Logs.{Hears, HoldsLogged, Sees, first_logged};
 ghost use Rattle.hcc_rule.specs.Passing.{IsIdle, joined_view, left_view, right_view};
 ghost use Rattle.hcc_rule.specs.Said.{tells, May, Did};
 ghost use Rattle.hcc_rule.specs.Seats.{IsSameSeat, moves, steps, view};
 
 use crate::key::Tag;
 use crate::rule::{Plan, ShardRule};
-use crate::steps::{Does, End, Start};
+use crate::steps::{Does, End, Hear, Start, Tell};
 use crate::table::{RuleSeat, RuleTable};
 use crate::view::{Logged, View};
 use atomic_table::{Closed, Table};
@@ -75,6 +75,7 @@ impl<T: Tag, A: Allocator> RuleTable<T, A> {
             (tells J.then self.now seat.old address 0 0) }
         ensures does { Did J.then self.now address 0 0 result seat.old seat.new }
         ensures sees { Sees T.fits (plan_of self.now) address result seat.old.me.0 seat.new.me.0 }
+        ensures hears { Hears seat.old.me.0 seat.new.me.0 }
     {
         self.words.table.shared.load::<Brand>(seat, address)
     }
@@ -224,5 +225,29 @@ impl<T: Tag, A: Allocator> RuleTable<T, A> {
         ensures past { past seat.new ≡ longer (past seat.old) (past other) }
     {
         self.words.table.shared.join_seat::<End>(seat, other)
+    }
+
+    /// A witness of all that the seat knows of the shard's history, for another client's seat to
+    /// follow. It stands for no client. The seat stays as it is, and a witness that nobody follows
+    /// does no harm.
+    ///
+    /// It allocates nothing. It costs one load.
+    pub fn witness(&self, seat: &mut RuleSeat<T>) -> RuleSeat<T>
+        requires { IsSeatAt self.now seat.old }
+        ensures same { seat.new ≡ seat.old }
+        ensures witness { IsWitnessAt self.now result }
+        ensures told { heard result ≡ past seat.old }
+    {
+        self.words.table.shared.split_seat::<Tell>(seat)
+    }
+
+    /// Tells a seat what a witness knows: what the seat knows after its next load that is an event
+    /// goes on from that. It costs one load.
+    pub(crate) fn hear(&self, seat: &mut RuleSeat<T>, witness: RuleSeat<T>)
+        requires seat { IsSeatAt self.now seat.old }
+        requires witness { IsWitnessAt self.now witness }
+        ensures { seat.new ≡ told (heard witness) seat.old }
+    {
+        self.words.table.shared.join_seat::<Hear>(seat, witness)
     }
 }

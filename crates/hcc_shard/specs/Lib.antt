@@ -5,6 +5,7 @@ pub mod Inserted
 pub mod Left
 pub mod Closed
 pub mod Ended
+pub mod Following
 pub mod Reopened
 pub mod Imaged
 pub mod Callers

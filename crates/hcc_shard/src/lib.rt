@@ -5,6 +5,7 @@
 mod closing;
 mod entries;
 mod erasing;
+mod following;
 mod getting;
 mod imaging;
 mod inserting;
@@ -18,7 +19,8 @@ mod shard;
 mod totals;
 
 pub use entries::{ClosedEntry, ClosedShard};
-pub use hcc_table::Got;
+pub use following::ShardWitness;
+pub use hcc_table::{Got, Part};
 pub use inserting::{Inserted, Pinned};
 pub use reopening::ReopenError;
 pub use seat::{ShardSeat, Stats};

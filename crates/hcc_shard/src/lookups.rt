@@ -91,7 +91,8 @@ impl<T: Tag, A: Allocator> Shard<T, A> {
         ensures missed { IfNone result (IsMissed key (view seat.old.seat) (view seat.new.seat)) }
         ensures searches { (found : ShardSeat T)
             × SearchesAt T.fits self.now key serial (option_map (λ got. got.0) result)
-            seat.old found × SeeksAt self.now found seat.new }
+            seat.old found × SeeksAt self.now found seat.new
+            × (view seat.new.seat ≡ view found.seat) }
         ensures effort { Took 1 (slots_of self.now.table) (slots_of self.now.table)
             seat.old.effort seat.new.effort }
         ensures counts { SameEvictions seat.old seat.new }

@@ -1,5 +1,5 @@
 //! What a client reads of slots and of the entries that it holds.
-ghost use Rattle.std.specs.Prelude.{◌≡◌, ◌+◌, ◌-◌, ◌*◌, ◌<◌, ◌≤◌, ◌++◌, IfErr, IfOk, IfSome, length, drop};
+ghost use Rattle.std.specs.Prelude.{◌≡◌, ◌+◌, ◌-◌, ◌*◌, ◌<◌, ◌≤◌, ◌++◌, IfErr, IfOk, IfSome, length, min, drop};
 ghost use Rattle.hcc_core.specs.World.{limit_of};
 ghost use Rattle.hcc_rule.specs.declared.layout.TheConstants.{KEY1};
 ghost use Rattle.hcc_rule.specs.Callers.{clients_of, plan_of, slots_of, IsSlotOf};
@@ -11,6 +11,7 @@ ghost use Rattle.hcc_rule.specs.ToldTrails.{passed_held};
 ghost use Rattle.hcc_rule.specs.Records.{different, record_in};
 ghost use Rattle.hcc_rule.specs.Words.{key_of, payload_word, words_for};
 ghost use Rattle.hcc_table.specs.Pins.{IsPinned};
+ghost use Rattle.hcc_table.specs.Readings.{part_in, words_across};
 ghost use Rattle.hcc_table.specs.Steps.{MakesAtMost};
 ghost use Rattle.hcc_shard.specs.Callers.{LoadsDisplacement, LoadsWord};
 ghost use Rattle.hcc_shard.specs.Counted.{SameCounts};
@@ -21,8 +22,8 @@ use crate::seat::ShardSeat;
 use crate::shard::Shard;
 use hcc_rule::{Key, Tag};
 use hcc_table::{
-    Pin, PinAt, copy_bytes, displacement, read_bytes, read_charge, read_key, read_len, read_word,
-    word,
+    Part, Pin, PinAt, copy_bytes, displacement, read_bytes, read_charge, read_key, read_len,
+    read_part, read_word, word,
 };
 use std::alloc::Allocator;
 
@@ -218,5 +219,37 @@ impl<T: Tag, A: Allocator> Shard<T, A> {
         }
         copy_bytes(&self.table, &mut seat.seat, held, count, buffer);
         Ok(count)
+    }
+
+    /// Copies bytes of the value of the entry of a pin that the client holds, from an offset on, to
+    /// the front of a buffer: as many as there are, and as it has room for. It returns how many
+    /// these are, and how many the whole value has. The rest of the buffer stays; where the offset
+    /// is at the value's end, or past it, all of it.
+    ///
+    /// It refuses nothing and allocates nothing. It costs a load for the length, and one for each
+    /// word of eight bytes that has some of these.
+    pub fn read_part(
+        &self,
+        seat: &mut ShardSeat<T>,
+        pin: Pin,
+        offset: usize,
+        buffer: &mut [u8],
+    ) -> Part
+        requires seat { Rests self.now seat.old }
+        requires slot { IsSlotOf self.now.table pin.slot }
+        requires holds { IsPinned pin (view seat.old.seat) }
+        ensures seat { Rests self.now seat.new }
+        ensures view { view seat.new.seat ≡ view seat.old.seat }
+        ensures length { IfSome (record_in pin.name (view seat.old.seat).records)
+            (λ r. result.length ≡ length r.entry.value) }
+        ensures given { result.given ≡ min (result.length - offset) (length buffer.old) }
+        ensures bytes { IfSome (record_in pin.name (view seat.old.seat).records)
+            (λ r. buffer.new ≡ part_in offset result.given r.entry.value buffer.old) }
+        ensures seeks { SeeksAt self.now seat.old seat.new }
+        ensures counts { SameCounts seat.old seat.new }
+        ensures steps { MakesAtMost (words_across offset result.given + 1)
+            seat.old.seat seat.new.seat }
+    {
+        read_part(&self.table, &mut seat.seat, pin, offset, buffer)
     }
 }

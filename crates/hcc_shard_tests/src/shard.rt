@@ -4,6 +4,7 @@ mod calls;
 mod full;
 mod guest;
 mod images;
+mod parts;
 mod rows;
 mod threads;
 mod visit;

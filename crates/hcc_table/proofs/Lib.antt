@@ -36,6 +36,7 @@ pub mod Bytes
 pub mod Values
 pub mod Unpackings
 pub mod Turns
+pub mod Offsets
 pub mod InsertsWords
 pub mod Inserts
 pub mod InsertsTries

@@ -225,16 +225,22 @@ module _ (from : ℕ) (value old : List ℕ) (within : 8 * from + 256 ≤ length
       ]
 
 -- The same of the record that the value is read by.
-pub some_last : (o : Option Record) (slot room from : ℕ) (old new : List ℕ)
+pub some_last : (o : Option Record) (slot room first from : ℕ) (old new : List ℕ)
     → 8 * from + 256 ≤ length old
     → IsSomeAnd o (λ r. (r.slot ≡ slot) × IsReadable room r
-    × (8 * from + 256 ≤ length r.entry.value))
-    → IfSome o (λ r. new ≡ turned from 8 r.entry.value old)
-    → IfSome o (λ r. new ≡ put_in (8 * from) 256 r.entry.value old)
-some_last None slot room from old new space holds put = tt
-some_last (Some r) slot room from old new space holds put =
-    put ∙ last_turn from r.entry.value old holds.2 space (4 * 8) (turned from 8 r.entry.value old)
-    (omega arith) (turns_done from r.entry.value old holds.2 space 8 (omega arith))
+    × (8 * (first + from) + 256 ≤ length r.entry.value))
+    → IfSome o (λ r. new ≡ turned from 8 (drop (8 * first) r.entry.value) old)
+    → IfSome o (λ r. new ≡ put_in (8 * from) 256 (drop (8 * first) r.entry.value) old)
+some_last None slot room first from old new space holds put = tt
+some_last (Some r) slot room first from old new space holds put =
+    put ∙ last_turn from ahead old within space (4 * 8) (turned from 8 ahead old) (omega arith)
+    (turns_done from ahead old within space 8 (omega arith))
+  where
+    ahead : List ℕ
+    ahead = drop (8 * first) r.entry.value
+
+    within : 8 * from + 256 ≤ length ahead
+    within = let most = holds.2 in omega (arith, length-drop (8 * first) r.entry.value)
 
 -- What was put of a value into a buffer that had some of it.
 some_put : (o : Option Record) (f : List ℕ → List ℕ) (g : List ℕ → List ℕ → List ℕ)

@@ -1,5 +1,5 @@
 -- What a record tells of the value that is read by it, and a buffer that it's copied to.
-use Rattle.std.specs.Prelude.{◌≡◌, ℕ, ◌+◌, ◌*◌, ◌<◌, ◌≤◌, List, ◌++◌, length, take, drop, slice_index}
+use Rattle.std.specs.Prelude.{◌≡◌, ℕ, zero, suc, ◌+◌, ◌*◌, ◌/◌, ◌%◌, ◌<◌, ◌≤◌, List, ◌++◌, length, take, drop, slice_index}
 use Rattle.hcc_rule.specs.declared.view.Record.{Record}
 use Rattle.hcc_rule.specs.Views.{Each}
 use Rattle.hcc_rule.specs.Words.{payload_word, words_for}
@@ -21,6 +21,15 @@ abbrev pub put_turn : (at : ℕ) → (value buffer : List ℕ) → List ℕ
 put_turn at value buffer =
     put_in (8 * (at + 24)) 8 value (put_in (8 * (at + 16)) 8 value
     (put_in (8 * (at + 8)) 8 value (put_in (8 * at) 8 value buffer)))
+
+-- a buffer with so many bytes of a value, from an offset on, in place of its own first ones
+abbrev pub part_in : (offset count : ℕ) → (value buffer : List ℕ) → List ℕ
+part_in offset count value buffer = take count (drop offset value) ++ drop count buffer
+
+-- how many words of a value have bytes of such a part
+abbrev pub words_across : (offset count : ℕ) → ℕ
+words_across offset zero = 0
+words_across offset (suc more) = (offset % 8 + suc more + 7) / 8
 
 -- these words begin with those of a value
 abbrev pub HasWords : (words value : List ℕ) → Type 0

@@ -74,6 +74,7 @@ mod keeping;
 pub mod laws;
 mod lists;
 mod optimistic;
+mod parts;
 mod pinning;
 mod pins;
 mod readings;
@@ -92,6 +93,7 @@ pub use inserting::{Insertion, insert};
 pub use keeping::{AtSlot, pin_at};
 pub use lists::{Freed, FreedList, NoList};
 pub use optimistic::{Got, read_optimistic};
+pub use parts::{Part, read_part};
 pub use pinning::pinned_charge;
 pub use pins::{IfLast, Pin, PinAt, Use};
 pub use readings::{

@@ -18,7 +18,7 @@ ghost use Rattle.hcc_rule.specs.Views.{Each};
 ghost use Rattle.hcc_rule.specs.Records.{different, record_in};
 ghost use Rattle.hcc_rule.specs.Words.{key_of, payload_word, words_for};
 ghost use Rattle.hcc_table.specs.Pins.{IsPinned, IsPinAt};
-ghost use Rattle.hcc_table.specs.Readings.{put_in, put_turn, IsReadable};
+ghost use Rattle.hcc_table.specs.Readings.{part_in, put_in, put_turn, IsReadable};
 ghost use Rattle.hcc_table.specs.Seeking.{Seeks};
 ghost use Rattle.hcc_table.specs.Steps.{MakesAtMost};
 
@@ -225,61 +225,90 @@ pub fn copy_bytes<T: Tag, A: Allocator>(
     ensures seeks { Seeks table.now seat.old seat.new }
     ensures steps { MakesAtMost (words_for count) seat.old seat.new }
 {
+    copy_from(table, seat, held, 0, count, buffer);
+}
+
+/// Copies bytes of the value from the first one of a word on, by the word's index.
+#[inline(always)]
+pub(crate) fn copy_from<T: Tag, A: Allocator>(
+    table: &RuleTable<T, A>,
+    seat: &mut RuleSeat<T>,
+    held: PinAt,
+    first: usize,
+    count: usize,
+    buffer: &mut [u8],
+)
+    requires seat { IsSeatAt table.now seat.old }
+    requires held { IsPinAt table.now held }
+    requires holds { IsPinned held.pin (view seat.old) }
+    requires readable { IfSome (record_in held.pin.name (view seat.old).records)
+        (λ r. IsReadable (room_of table.now) r) }
+    requires within { IfSome (record_in held.pin.name (view seat.old).records)
+        (λ r. 8 * first + count ≤ length r.entry.value) }
+    requires space { count ≤ length buffer.old }
+    ensures seat { IsSameSeat seat.old seat.new }
+    ensures view { view seat.new ≡ view seat.old }
+    ensures bytes { IfSome (record_in held.pin.name (view seat.old).records)
+        (λ r. buffer.new ≡ part_in (8 * first) count r.entry.value buffer.old) }
+    ensures seeks { Seeks table.now seat.old seat.new }
+    ensures steps { MakesAtMost (words_for count) seat.old seat.new }
+{
     let whole = count / 8;
     let blocks = whole / 32;
     for block in 0..blocks {
-        copy_lines(table, seat, held, 32 * block, buffer);
+        copy_lines(table, seat, held, first, 32 * block, buffer);
     }
     let fours = whole / 4;
     for four in 8 * blocks..fours {
         // These are unrolled; of more the compiler reckons each address anew.
         for part in 0..4 {
-            copy_word(table, seat, held, 4 * four + part, 8, buffer);
+            copy_word(table, seat, held, first, 4 * four + part, 8, buffer);
         }
     }
     for index in 4 * fours..whole {
-        copy_word(table, seat, held, index, 8, buffer);
+        copy_word(table, seat, held, first, index, 8, buffer);
     }
     let rest = count % 8;
     if rest > 0 {
-        copy_word(table, seat, held, whole, rest, buffer);
+        copy_word(table, seat, held, first, whole, rest, buffer);
     }
 }
 
 /// Copies 32 words of the value, from the word of an index on, to their place in a buffer: of each
 /// of four lines of eight words the first, then of each the second, and so on. So cache lines are
-/// fetched at once, and not one after the other.
+/// fetched at once, and not one after the other. The index counts from the first word copied.
 #[inline(always)]
 fn copy_lines<T: Tag, A: Allocator>(
     table: &RuleTable<T, A>,
     seat: &mut RuleSeat<T>,
     held: PinAt,
+    first: usize,
     from: usize,
     buffer: &mut [u8],
 )
     requires seat { IsSeatAt table.now seat.old }
     requires held { IsPinAt table.now held }
-    requires within { from + 32 ≤ room_of table.now }
+    requires within { first + (from + 32) ≤ room_of table.now }
     requires space { 8 * from + 256 ≤ length buffer.old }
     requires holds { IsSomeAnd (record_in held.pin.name (view seat.old).records)
         (λ r. (r.slot ≡ held.pin.slot) × IsReadable (room_of table.now) r
-        × (8 * from + 256 ≤ length r.entry.value)) }
+        × (8 * (first + from) + 256 ≤ length r.entry.value)) }
     ensures seat { IsSameSeat seat.old seat.new }
     ensures view { view seat.new ≡ view seat.old }
     ensures bytes { IfSome (record_in held.pin.name (view seat.old).records)
-        (λ r. buffer.new ≡ put_in (8 * from) 256 r.entry.value buffer.old) }
+        (λ r. buffer.new ≡ put_in (8 * from) 256 (drop (8 * first) r.entry.value) buffer.old) }
     ensures seeks { Seeks table.now seat.old seat.new }
     ensures steps { MakesAtMost 32 seat.old seat.new }
 {
     // The compiler leaves a loop of this length as it is.
-    copy_turn(table, seat, held, from, buffer);
-    copy_turn(table, seat, held, from + 1, buffer);
-    copy_turn(table, seat, held, from + 2, buffer);
-    copy_turn(table, seat, held, from + 3, buffer);
-    copy_turn(table, seat, held, from + 4, buffer);
-    copy_turn(table, seat, held, from + 5, buffer);
-    copy_turn(table, seat, held, from + 6, buffer);
-    copy_turn(table, seat, held, from + 7, buffer);
+    copy_turn(table, seat, held, first, from, buffer);
+    copy_turn(table, seat, held, first, from + 1, buffer);
+    copy_turn(table, seat, held, first, from + 2, buffer);
+    copy_turn(table, seat, held, first, from + 3, buffer);
+    copy_turn(table, seat, held, first, from + 4, buffer);
+    copy_turn(table, seat, held, first, from + 5, buffer);
+    copy_turn(table, seat, held, first, from + 6, buffer);
+    copy_turn(table, seat, held, first, from + 7, buffer);
 }
 
 /// Copies four words of the value, the first by its index and each eight words behind the one
@@ -289,27 +318,28 @@ fn copy_turn<T: Tag, A: Allocator>(
     table: &RuleTable<T, A>,
     seat: &mut RuleSeat<T>,
     held: PinAt,
+    first: usize,
     at: usize,
     buffer: &mut [u8],
 )
     requires seat { IsSeatAt table.now seat.old }
     requires held { IsPinAt table.now held }
-    requires within { at + 24 < room_of table.now }
+    requires within { first + (at + 24) < room_of table.now }
     requires space { 8 * (at + 24) + 8 ≤ length buffer.old }
     requires holds { IsSomeAnd (record_in held.pin.name (view seat.old).records)
         (λ r. (r.slot ≡ held.pin.slot) × IsReadable (room_of table.now) r
-        × (8 * (at + 24) + 8 ≤ length r.entry.value)) }
+        × (8 * (first + (at + 24)) + 8 ≤ length r.entry.value)) }
     ensures seat { IsSameSeat seat.old seat.new }
     ensures view { view seat.new ≡ view seat.old }
     ensures bytes { IfSome (record_in held.pin.name (view seat.old).records)
-        (λ r. buffer.new ≡ put_turn at r.entry.value buffer.old) }
+        (λ r. buffer.new ≡ put_turn at (drop (8 * first) r.entry.value) buffer.old) }
     ensures seeks { Seeks table.now seat.old seat.new }
     ensures steps { MakesAtMost 4 seat.old seat.new }
 {
-    copy_word(table, seat, held, at, 8, buffer);
-    copy_word(table, seat, held, at + 8, 8, buffer);
-    copy_word(table, seat, held, at + 16, 8, buffer);
-    copy_word(table, seat, held, at + 24, 8, buffer);
+    copy_word(table, seat, held, first, at, 8, buffer);
+    copy_word(table, seat, held, first, at + 8, 8, buffer);
+    copy_word(table, seat, held, first, at + 16, 8, buffer);
+    copy_word(table, seat, held, first, at + 24, 8, buffer);
 }
 
 /// Copies the first bytes of a word of the value, by its index, to their place in a buffer.
@@ -318,27 +348,28 @@ fn copy_word<T: Tag, A: Allocator>(
     table: &RuleTable<T, A>,
     seat: &mut RuleSeat<T>,
     held: PinAt,
+    first: usize,
     index: usize,
     count: usize,
     buffer: &mut [u8],
 )
     requires seat { IsSeatAt table.now seat.old }
     requires held { IsPinAt table.now held }
-    requires within { index < room_of table.now }
+    requires within { first + index < room_of table.now }
     requires some { 0 < count }
     requires few { count ≤ 8 }
     requires space { 8 * index + count ≤ length buffer.old }
     requires holds { IsSomeAnd (record_in held.pin.name (view seat.old).records)
         (λ r. (r.slot ≡ held.pin.slot) × IsReadable (room_of table.now) r
-        × (8 * index + count ≤ length r.entry.value)) }
+        × (8 * (first + index) + count ≤ length r.entry.value)) }
     ensures seat { IsSameSeat seat.old seat.new }
     ensures view { view seat.new ≡ view seat.old }
     ensures bytes { IfSome (record_in held.pin.name (view seat.old).records)
-        (λ r. buffer.new ≡ put_in (8 * index) count r.entry.value buffer.old) }
+        (λ r. buffer.new ≡ put_in (8 * index) count (drop (8 * first) r.entry.value) buffer.old) }
     ensures seeks { Seeks table.now seat.old seat.new }
     ensures steps { MakesAtMost 1 seat.old seat.new }
 {
-    let word = read_word(table, seat, held, index);
+    let word = read_word(table, seat, held, first + index);
     put(buffer, 8 * index, count, word);
 }
 

@@ -1,8 +1,12 @@
 -- The seats of a client, once one of them was worked with.
+use mathlib.Core.HLevel.{is_prop→PathP}
+use native.Mathlib.Bridge.{le_prop}
+use native.Mathlib.Nat.{ℕ_set}
 use Rattle.std.proofs.Common.{◌≡◌, ℕ, ◌+◌, ◌<◌, ◌≤◌, List, Some, length, slice_get, slice_set, sym, ap, ◌∙◌, length-set, arith}
 use Rattle.hcc_core.specs.declared.client.Standalone.{Standalone}
 use Rattle.hcc_core.specs.Sums.{total}
-use Rattle.hcc_core.proofs.ListLemmas.{read_here, read_other, read_same}
+use Rattle.std.specs.Vec.{with_item}
+use Rattle.hcc_core.proofs.ListLemmas.{read_here, read_other, read_same, set_same}
 use Rattle.hcc_core.proofs.SumLemmas.{total-set}
 use Rattle.hcc_rule.specs.declared.view.Record.{Record}
 use Rattle.hcc_rule.specs.declared.view.View.{View}
@@ -14,6 +18,8 @@ use Rattle.hcc_shard.specs.declared.shard.Shard.{Shard}
 use Rattle.hcc_shard.specs.Callers.{steps_of, view_of}
 use Rattle.hcc_shard.specs.Seated.{Rests}
 use Rattle.hcc_shard.proofs.Names.{above_later}
+use Rattle.hcc_cache.specs.declared.client.Client.{Client}
+use Rattle.hcc_cache.specs.declared.seeded.Seeded.{Seeded}
 use Rattle.hcc_cache.specs.Clients.{view_by, view_in}
 use Rattle.hcc_cache.specs.Known.{AreCharged, AreHome, AreSeated, IsHome, IsSeated}
 use Rattle.hcc_cache.proofs.Basics.FoundByName.{names_later, standings_later}
@@ -36,6 +42,22 @@ module _ {T : Type 0} where
       → f (view_in (slice_set seats i new) j) ≡ f (view_in seats j)
   part_same f seats i j old new at same =
       read_same (λ o. f (view_by o)) seats i j old new at same
+
+  -- a client whose seat at a shard is written over itself is the same
+  pub seat_over : (client : Client T) (i : ℕ) (seat : ShardSeat (Seeded T))
+      → slice_get client.seats.items i ≡ Some seat
+      → record client { seats = with_item client.seats i seat } ≡ client
+  seat_over client i seat at =
+      let same = set_same client.seats.items i seat at in
+      λ k. record client {
+        seats = record client.seats {
+          items = same k;
+          ok = is_prop→PathP (λ j. (client.seats.len ≡ length (same j))
+              × (client.seats.len ≤ client.seats.cap))
+              (λ j x y l. (ℕ_set _ _ x.0 y.0 l, le_prop x.1 y.1 l))
+              (with_item client.seats i seat).ok client.seats.ok k;
+        };
+      }
 
   -- the steps of a client that worked at one shard
   pub steps_set : (seats : List (ShardSeat T)) (i most : ℕ) (old new : ShardSeat T)

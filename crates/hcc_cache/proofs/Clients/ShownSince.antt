@@ -24,7 +24,7 @@ use Rattle.hcc_table.specs.declared.pins.Pin.{Pin}
 use Rattle.hcc_table.specs.Optimistic.{LacksAll}
 use Rattle.hcc_rule.specs.declared.table.RuleTable.{RuleTable}
 use Rattle.hcc_table.specs.Seeking.{Seeks}
-use Rattle.hcc_table.specs.Standing.{FindsLasting, LacksOnce, ShowsKey, shown_at}
+use Rattle.hcc_table.specs.Standing.{FindsLasting, IsMomentOf, LacksOnce, ShowsKey, shown_at}
 use Rattle.hcc_table.specs.Still.{GoesOnStill, is_still}
 use Rattle.hcc_table.proofs.Moments.{some_and}
 use Rattle.hcc_table.proofs.Seeking.{goes_none, seeks_one, seeks_then}
@@ -48,7 +48,7 @@ still_takes (events.Hide client name) is = cc
 still_takes (events.Free client slot name) is = cc
 still_takes other is = refl
 
-own_takes : (c : ℕ) (ds : List Done)
+pub own_takes : (c : ℕ) (ds : List Done)
     → Each (λ (done : Done). IsStepBy c done.event → is_still done.event ≡ true) ds
     → Each (λ (done : Done). IsStepBy c done.event → may_take done.event ≡ false) ds
 own_takes c [] only = tt
@@ -67,30 +67,32 @@ taken_more more later t = record {
   gone = t.gone;
 }
 
--- A moment of a call at which a slot lacked a key is one of a call that read on behind it.
+-- A moment of a call is one of a call that read on behind it.
+pub moment_on : {T A : Type 0} (table : RuleTable T A) (moment a b c : SeatOf T)
+    → IsMomentOf table moment a b → Seeks table b c → IsMomentOf table moment a c
+moment_on table moment a b c m reads =
+    let on = seeks_still table b c reads in
+    record {
+      before = m.before;
+      done = m.done;
+      began = m.began;
+      step = m.step;
+      seeking = m.seeking;
+      own = m.own;
+      rest = seeks_then table moment b c m.rest reads;
+      since = m.since;
+      begins = m.begins;
+      later = m.later ++ on.more;
+      goes_on =
+          on.goes_on ∙ ap (λ xs. xs ++ on.more) m.goes_on
+          ∙ append_assoc (past moment) m.later on.more;
+    }
+
+-- So is one at which a slot lacked a key.
 lacks_on : {T A : Type 0} (table : RuleTable T A) (key : Key) (slot : ℕ) (a b c : SeatOf T)
     → LacksOnce table key slot a b → Seeks table b c → LacksOnce table key slot a c
 lacks_on table key slot a b c once reads =
-    let m = once.1 in
-    let on = seeks_still table b c reads in (
-      once.0,
-      record {
-        before = m.before;
-        done = m.done;
-        began = m.began;
-        step = m.step;
-        seeking = m.seeking;
-        own = m.own;
-        rest = seeks_then table once.0 b c m.rest reads;
-        since = m.since;
-        begins = m.begins;
-        later = m.later ++ on.more;
-        goes_on =
-            on.goes_on ∙ ap (λ xs. xs ++ on.more) m.goes_on
-            ∙ append_assoc (past once.0) m.later on.more;
-      },
-      once.2,
-    )
+    (once.0, moment_on table once.0 a b c once.1 reads, once.2)
 
 module _ {T : Type 0} (fits : T → Key → List ℕ → Type 0) (cache : Cache T)
     (began : BeganEachWithin cache fits) (key : Key) (old : Client T)
@@ -118,18 +120,22 @@ module _ {T : Type 0} (fits : T → Key → List ℕ → Type 0) (cache : Cache 
   module _ (new : Client T) where
     -- So does a client whose seat knows more.
     pub shown_since : (g : GoesOnAt (shard_in cache key) old new)
-        → KnowsShown cache key new ⊎ IsTakenSince cache key old k g.more
+        → ((now : KnowsShown cache key new) × (now.slot ≡ k.slot))
+        ⊎ IsTakenSince cache key old k g.more
     shown_since g =
         elim (still_at g.is.seat g.more goes_on) [
-          | inl left ↦ inl (record {
-            shard = k.shard;
-            seat = g.is;
-            shard_is = k.shard_is;
-            seat_is = g.seat_is;
-            slot = k.slot;
-            within = k.within;
-            shows = left;
-          })
+          | inl left ↦ inl (
+            record {
+              shard = k.shard;
+              seat = g.is;
+              shard_is = k.shard_is;
+              seat_is = g.seat_is;
+              slot = k.slot;
+              within = k.within;
+              shows = left;
+            },
+            refl,
+          )
           | inr took ↦ inr took
         ]
       where

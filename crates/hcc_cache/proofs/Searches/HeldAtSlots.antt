@@ -62,6 +62,23 @@ module _ {T : Type 0} where
     pub pinned_there : (pin : Pin) → pin.name ≡ name → IsOf pin r → IsPinned pin m
     pinned_there pin called of = rw (called, there) of
 
+    -- It is found still once more was searched.
+    pub found_on : (w : View T) → Sought m w → IsFoundOn fits room slot name v w r
+    found_on w sought = record {
+      searched = searched_then v m w found.searched sought.searched;
+      records = sought.records ∙ found.records;
+      on = found.on;
+      called = found.called;
+      single = found.single;
+      shown = found.shown;
+      right = found.right;
+      short = found.short;
+      bytes = found.bytes;
+      small = found.small;
+      alive = found.alive;
+      one = found.one;
+    }
+
     module _ (w : View T) (read : w ≡ after_read name KEY1 m) where
       sought : Sought m w
       sought = read_there name KEY1 m w read
@@ -91,20 +108,7 @@ module _ {T : Type 0} where
           )
 
       found_still : IsFoundOn fits room slot name v w r
-      found_still = record {
-        searched = searched_then v m w found.searched sought.searched;
-        records = sought.records ∙ found.records;
-        on = found.on;
-        called = found.called;
-        single = found.single;
-        shown = found.shown;
-        right = found.right;
-        short = found.short;
-        bytes = found.bytes;
-        small = found.small;
-        alive = found.alive;
-        one = found.one;
-      }
+      found_still = found_on w sought
 
       -- It is what a look-up finds.
       pub found_read : (key : Key) → key_of r.entry ≡ key

@@ -174,12 +174,14 @@ module _ {T : Type 0} where
         → i ≡ shard_in cache key → (pin : Option Pin) (looked : ShardSeat (Seeded T))
         → is_some pin ≡ is_some found
         → SearchesAt (fits_seeded fits) shard (key_to cache.seed key) old.used pin was looked
-        → ReadsOn shard looked is → SearchesReadingFor cache fits key found old new
-    searched_reading_at fits key found there pin looked same searches reads =
+        → ReadsOn shard looked is → view_of is ≡ view_of looked
+        → SearchesReadingFor cache fits key found old new
+    searched_reading_at fits key found there pin looked same searches reads view =
         did_at cache old new i shard was is at change
         (λ s a b. (p : Option Pin) × (l : ShardSeat (Seeded T)) × (is_some p ≡ is_some found)
-        × SearchesAt (fits_seeded fits) s (key_to cache.seed key) old.used p a l × ReadsOn s l b)
-        (pin, looked, same, searches, reads) (shard_in cache key) there
+        × SearchesAt (fits_seeded fits) s (key_to cache.seed key) old.used p a l × ReadsOn s l b
+        × (view_of b ≡ view_of l))
+        (pin, looked, same, searches, reads, view) (shard_in cache key) there
 
     -- A look-up found none.
     pub misses : (key : Key) → IsLeft old new → i ≡ shard_in cache key

@@ -19,6 +19,8 @@ pub(super) enum Call<'v> {
     Pin(u64, u64, u32, Priority, &'v [u8], usize),
     /// The handle that it gives gets a number.
     Look(u64, u64, usize),
+    /// Of a shard and a slot; the handle that it gives gets a number.
+    Walk(u32, u32, usize),
     /// One more handle on the entry of a handle, and its number.
     Again(usize, usize),
     /// Whether it is useful, and whether the last one erases.
@@ -41,6 +43,8 @@ pub(super) enum Answer {
     /// A handle was given, or none was for want of an entry.
     Found,
     Missed,
+    /// A walk holds the entry of this key, with its charge and its uses.
+    Held(u64, u64, u64, u32),
     NoHandle(LookupError),
     /// Whether an entry was freed.
     Freed(bool),
@@ -155,7 +159,30 @@ fn answers(
             Ok(None) => Answer::Missed,
             Err(why) => Answer::NoHandle(why),
         },
+        Call::Walk(shard, slot, number) => { walks(rt, cache, client, hand, (shard, slot), number) }
         _ => by_handle(rt, cache, config, client, hand, call),
+    }
+}
+
+/// Holds the entry of a slot of a shard.
+fn walks(
+    rt: &impl Abort,
+    cache: &Store,
+    client: &mut Client<AnyBytes>,
+    hand: &mut Hand,
+    at: (u32, u32),
+    number: usize,
+) -> Answer
+    requires { Knows cache.now client.old }
+    ensures { Knows cache.now client.new }
+{
+    match cache.pin_at(client, at.0, at.1) {
+        Ok(Some(held)) => {
+            hand.keep(rt, number, held.handle);
+            Answer::Held(held.key.w0, held.key.w1, held.charge, held.uses)
+        }
+        Ok(None) => Answer::Missed,
+        Err(why) => Answer::NoHandle(why),
     }
 }
 

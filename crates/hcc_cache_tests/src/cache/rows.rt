@@ -287,6 +287,53 @@ fn a_key_has_one_visible_entry(rt: HostRuntime) -> Result<(), Fail> {
     Ok(())
 }
 
+/// A walk holds the visible entry of a slot, and tells its countdown. It visits no slot for a key,
+/// and where its handle is given back as no use the word is what it was.
+const WALKED: [Step; 12] = [
+    (
+        Call::Insert(0, 1, 200, Low, &[0xaa]),
+        Answer::Stored(Placed),
+    ),
+    (Call::Insert(0, 1, 200, Low, &[]), Answer::Stored(Dropped)),
+    (Call::Walk(0, 1, 0), Answer::Held(0, 1, 200, 4)),
+    (Call::Slot(0, 1), Answer::Slot(0xe000_0001_0000_0005, 0)),
+    (Call::Read(0), Answer::Entry(0, 1, 1, OLD)),
+    (Call::Release(0, false, false), Answer::Freed(false)),
+    (Call::Slot(0, 1), Answer::Slot(0xe000_0001_0000_0004, 0)),
+    (Call::Walk(0, 2, 0), Answer::Missed),
+    (Call::Walk(0, 8, 0), Answer::Missed),
+    (Call::Walk(1, 1, 0), Answer::Missed),
+    (Call::Did, Answer::Did([2, 1, 0, 0, 0, 0])),
+    (Call::Has, Answer::Has(0, 18_014_398_509_481_981)),
+];
+
+/// One handle is held at a time. What was erased isn't held.
+const WALKED_ON: [Step; 9] = [
+    (Call::Insert(0, 1, 200, Low, &[]), Answer::Stored(Placed)),
+    (Call::Insert(0, 2, 100, High, &[]), Answer::Stored(Placed)),
+    (Call::Walk(0, 1, 0), Answer::Held(0, 1, 200, 2)),
+    (
+        Call::Walk(0, 2, 1),
+        Answer::NoHandle(LookupError::HandlesFull),
+    ),
+    (Call::Walk(0, 8, 1), Answer::Missed),
+    (Call::Erase(0, 1), Answer::Hidden(1)),
+    (Call::Release(0, false, false), Answer::Freed(true)),
+    (Call::Walk(0, 1, 0), Answer::Missed),
+    (Call::Walk(0, 2, 0), Answer::Held(0, 2, 100, 3)),
+];
+
+#[test]
+fn walks_hold_what_is_visible(rt: HostRuntime) -> Result<(), Fail> {
+    row(&rt, rt.alloc(), SMALL, &WALKED)?;
+    let one = Config {
+        handles: 1,
+        ..SMALL
+    };
+    row(&rt, rt.alloc(), one, &WALKED_ON)?;
+    Ok(())
+}
+
 /// Values of no bytes and of as many as fit are read back.
 const FILLED: [u8; 16] = [0, 1, 2, 3, 4, 5, 6, 7, 8, 9, 10, 11, 12, 13, 14, 15];
 

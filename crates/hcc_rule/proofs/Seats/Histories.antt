@@ -11,6 +11,7 @@ use Rattle.hcc_rule.specs.declared.rule.Plan.{Plan}
 use Rattle.hcc_rule.specs.declared.view.Done.{Done}
 use Rattle.hcc_rule.specs.declared.view.Logged.{Logged}
 use Rattle.hcc_rule.specs.Acts.{Follows, GoesBy, IsFront, IsKnown, IsNext, IsNoStep, IsNoStepOf, IsRun, KeepsTrails, Leads, RecordsStand, events_of, longer, with_done, world_of}
+use Rattle.hcc_rule.specs.Logs.{HasHeard}
 use Rattle.hcc_rule.specs.Opening.{begun_world}
 use Rattle.hcc_rule.specs.Rule.{AreTrailed}
 use Rattle.hcc_rule.specs.Views.{Each, is_seated, names}
@@ -225,6 +226,30 @@ module _ {T : Type 0} where
         alone = λ one sits. absurd (let bad = never one in omega arith);
       }
 
+  -- What was told.
+
+  -- what a seat was told is a front of a history that goes on
+  pub heard_more : (history more : List Done) (l m : Logged T) → m.heard ≡ l.heard
+      → HasHeard history l → HasHeard (history ++ more) m
+  heard_more history more l m same h = (
+    h.0 ++ more,
+    ap (λ ds. ds ++ more) h.1
+        ∙ (ap (λ ds. (ds ++ h.0) ++ more) (sym same) ∙ append_assoc m.heard h.0 more),
+  )
+
+  -- or of one that goes on by what a step was
+  pub heard_on : (history : List Done) (done : Option Done) (l m : Logged T) → m.heard ≡ l.heard
+      → HasHeard history l → HasHeard (with_done history done) m
+  heard_on history None l m same h = (h.0, h.1 ∙ ap (λ ds. ds ++ h.0) (sym same))
+  heard_on history (Some done) l m same h = heard_more history (done ∷ []) l m same h
+
+  -- a seat that knows all of the history goes on from what it was told before
+  pub goes_on : (history : List Done) (old new : Logged T) → new.past ≡ history
+      → new.heard ≡ old.heard → HasHeard history new
+      → (more : List Done) × (new.past ≡ old.heard ++ more)
+  goes_on history old new all same told =
+      (told.0, all ∙ (told.1 ∙ ap (λ ds. ds ++ told.0) same))
+
   -- Who knows all.
 
   -- a start or an end comes, and each seat that the views had is there with what it knew
@@ -246,7 +271,7 @@ module _ {T : Type 0} where
       }
 
   -- a seat whose view changes while it learns nothing
-  known_same : (history : List Done) (views : List (Logged T)) (id : ℕ) (l w : Logged T)
+  pub known_same : (history : List Done) (views : List (Logged T)) (id : ℕ) (l w : Logged T)
       → slice_get views id ≡ Some l → w.past ≡ l.past → IsKnown history views
       → IsKnown history (slice_set views id w)
   known_same history views id l w at same known = elim (cases_eq known.number id) [

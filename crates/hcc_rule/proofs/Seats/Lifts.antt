@@ -27,7 +27,7 @@ use Rattle.hcc_rule.specs.declared.view.Logged.{Logged}
 use Rattle.hcc_rule.specs.declared.view.Other.{Other}
 use Rattle.hcc_rule.specs.declared.view.View.{View}
 use Rattle.hcc_rule.specs.Acts.{Acts, Becomes, IsAllowed, IsRun, KeepsTrails, RecordsStand, events_of, with_done, world_of}
-use Rattle.hcc_rule.specs.Logs.{Loads, Logs, HoldsLogged, Shows, known_of, unlogged}
+use Rattle.hcc_rule.specs.Logs.{HasHeard, Hears, Loads, Logs, HoldsLogged, Shows, known_of, unlogged}
 use Rattle.hcc_rule.specs.Opening.{begun_world}
 use Rattle.hcc_rule.specs.PassedLogs.{left_logged, right_logged, joined_logged, spent_logged}
 use Rattle.hcc_rule.specs.Passing.{left_view, right_view, spent_view}
@@ -45,7 +45,7 @@ use Rattle.hcc_rule.proofs.Parts.Asides.{law_is}
 use Rattle.hcc_rule.proofs.Parts.HeldReferences.{slot_held}
 use Rattle.hcc_rule.proofs.References.Reaches.{entry_right}
 use Rattle.hcc_rule.proofs.Seats.Fronts.{Meets, fronts_after, join_fronts, join_known, known, known_at, named_all, names_same, names_two, split_fronts, split_known}
-use Rattle.hcc_rule.proofs.Seats.Histories.{follows_is, known_after, past_after, run_front, run_more, run_on, trails_front, trails_more, trails_on}
+use Rattle.hcc_rule.proofs.Seats.Histories.{follows_is, goes_on, heard_more, heard_on, known_after, past_after, run_front, run_more, run_on, trails_front, trails_more, trails_on}
 use Rattle.hcc_rule.proofs.Seats.Joins.{total_joined}
 use Rattle.hcc_rule.proofs.Seats.Runs.{run_finds, world_is}
 use Rattle.hcc_rule.proofs.Seats.Passes.{JoinsBy, Passed, SplitsBy}
@@ -145,12 +145,12 @@ module _ {T : Type 0} (fits : T → Key → List ℕ → Type 0) (p : Plan T) wh
       → (words : List ℕ) (homes : List (maybe.Option (Unit {0}))) (id : ℕ) (l w : Logged T)
       (done : Option Done)
       → slice_get s.views id ≡ Some l → is_seated l.known ≡ true → moves_of w ≡ moves_of l + 1
-      → w.past ≡ past_after holds.history done l
+      → w.past ≡ past_after holds.history done l → w.heard ≡ l.heard
       → MeetsBy l.known.client holds.rule.world done words homes
       (slice_set (unlogged s).views id w.known)
       → HoldsLogged fits p
       (record { words = words; homes = homes; views = slice_set s.views id w })
-  stepped_logged s holds words homes id l w done at seated one past becomes =
+  stepped_logged s holds words homes id l w done at seated one past told becomes =
       let change = total-set moves_of s.views id l w at in
       let mine = total-member moves_of s.views id l at in
       let now : MeetsBy l.known.client holds.rule.world done words homes
@@ -174,6 +174,9 @@ module _ {T : Type 0} (fits : T → Key → List ℕ → Type 0) (p : Plan T) wh
         trails = trails_on p holds.history done now.0.world run now.0.trails.entries holds.trails;
         fronts = fronts_after fits p s holds id l w at seated same now.0.world done now.1 past;
         known = known_after holds.history s.views id l w done at past holds.known;
+        heard = each_set (λ j m. HasHeard (with_done holds.history done) m) s.views id w
+            (heard_on holds.history done l w told (holds.heard id l at))
+            (λ j m other there. heard_on holds.history done m m refl (holds.heard j m there));
       }
 
   -- the machine allows all that a seat knows
@@ -230,7 +233,7 @@ module _ {T : Type 0} (fits : T → Key → List ℕ → Type 0) (p : Plan T) wh
       (w : Logged T) × (act : table.Act (Unit {0})) × table.Valid s.homes me.1 act
       × (after : HoldsLogged fits p (table.stepped s a y id me.1 w act))
       × Logs p then step me found (w, table.carried_after me.1 act)
-      × (me.0.past ≢ w.past → w.past ≡ after.history)
+      × (me.0.past ≢ w.past → w.past ≡ after.history) × Hears me.0 w
 
   lifts : {then : Then} {step : table.Step (Unit {0})} {count id a : ℕ}
       {me : table.Me (Unit {0}) (Logged T)} (f word : ℕ → ℕ) → is_seated me.0.known ≡ true
@@ -246,7 +249,7 @@ module _ {T : Type 0} (fits : T → Key → List ℕ → Type 0) (p : Plan T) wh
       let push = length-push me.0.steps (atomic step.word step.first step.second found) in
       let w : Logged T = seat_after given.0 step me found (past_after holds.history given.3 me.0)
       in
-      let after = stepped_logged s holds _ _ id me.0 w given.3 here seated (omega arith) refl
+      let after = stepped_logged s holds _ _ id me.0 w given.3 here seated (omega arith) refl refl
       given.4 in
       let there = read_here s.views id me.0 w here in (
         w,
@@ -268,6 +271,8 @@ module _ {T : Type 0} (fits : T → Key → List ℕ → Type 0) (p : Plan T) wh
           one = push;
         },
         knows_all holds.history given.3 me.0,
+        λ moved. goes_on after.history me.0 w (knows_all holds.history given.3 me.0 moved) refl
+            (after.heard id w there),
       )
 
   -- A step that leaves f of the word, and tells of `word` of it: the word itself, but at a store
@@ -315,6 +320,7 @@ module _ {T : Type 0} (fits : T → Key → List ℕ → Type 0) (p : Plan T) wh
               subst (Shows fits p step.word (slice_index s.words a))
               (world_is fits p _ after ∙ ap (λ h. world_of p h) (sym (given.5 moved)))
               (shows given.0 given.1 after),
+          given.6,
         ),
       )
     where
@@ -381,6 +387,12 @@ module _ {T : Type 0} (fits : T → Key → List ℕ → Type 0) (p : Plan T) wh
         trails = trails_more p holds.history done now.0.world run now.0.trails.entries holds.trails;
         fronts = split_fronts fits p s holds id l done here seated now.1.0 two;
         known = split_known fits p s holds id l done here now.1.0;
+        heard = each_snoc (HasHeard (holds.history ++ done ∷ [])) (slice_set s.views id
+            (left_logged l)) (right_logged l) (holds.history ++ done ∷ [], refl)
+            (each_set (λ j m. HasHeard (holds.history ++ done ∷ []) m) s.views id (left_logged l)
+            (heard_more holds.history (done ∷ []) l (left_logged l) refl (holds.heard id l here))
+            (λ j m other there.
+            heard_more holds.history (done ∷ []) m m refl (holds.heard j m there)));
       }
 
   -- Two seats that are joined.
@@ -428,6 +440,12 @@ module _ {T : Type 0} (fits : T → Key → List ℕ → Type 0) (p : Plan T) wh
         trails = trails_more p holds.history done now.0.world run now.0.trails.entries holds.trails;
         fronts = join_fronts fits p s holds id other l m here apart before seated sits done now.1.0;
         known = join_known fits p s holds id other l m here apart before seated sits done now.1.0;
+        heard = each_set (λ j o. HasHeard (holds.history ++ done ∷ []) o) (slice_set s.views id
+            both) other spent_logged (holds.history ++ done ∷ [], refl)
+            (λ j o apart. each_set (λ j o. HasHeard (holds.history ++ done ∷ []) o) s.views id both
+            (heard_more holds.history (done ∷ []) l both refl (holds.heard id l here))
+            (λ j o other there.
+            heard_more holds.history (done ∷ []) o o refl (holds.heard j o there)) j o);
       }
 
   -- The last state, without steps.

@@ -34,7 +34,7 @@ use Rattle.hcc_rule.specs.Views.{Each}
 use Rattle.hcc_rule.specs.Rule.{slot_weighs, Books, book_of, made_at, entry_by, entry_in, setup_of, IsStored, IsDraft, IsHolding, IsNamed, IsRight, IsSeated, Seats, Stamps, Ledgers, Trails, IsTrailed, IsModest, Holds, AreApart, IsTagged, IsGiven}
 use Rattle.hcc_rule.specs.Words.{entry_of}
 use Rattle.hcc_rule.specs.Acts.{IsFront}
-use Rattle.hcc_rule.specs.Logs.{HoldsLogged, first_logged}
+use Rattle.hcc_rule.specs.Logs.{HasHeard, HoldsLogged, first_logged}
 use Rattle.hcc_rule.specs.Opening.{begun_world, started, unstarted, opening_view}
 use Rattle.hcc_rule.specs.Seats.{moves_of}
 use Rattle.hcc_rule.proofs.Basics.Bounds.{total-bound}
@@ -561,4 +561,5 @@ module _ {T : Type 0} (fits : T → Key → List ℕ → Type 0) (p : Plan T) (c
         is = refl;
         still = tt;
       };
+      heard = only (HasHeard []) (first_logged p) ([], refl);
     }

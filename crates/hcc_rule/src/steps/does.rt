@@ -40,6 +40,28 @@ impl<T: Tag> Split<Logged<T>> for Start {
     ghost right = { right_logged };
 }
 
+/// How a witness is split off: it is told all that the seat knows of the history.
+pub struct Tell;
+
+impl<T: Tag> Split<Logged<T>> for Tell {
+    ghost use Rattle.hcc_rule.specs.PassedLogs.{giver_logged, given_logged};
+
+    ghost left = { giver_logged };
+
+    ghost right = { given_logged };
+}
+
+/// How a witness is heard: the seat was told what the witness was.
+pub struct Hear;
+
+impl<T: Tag> Join<Logged<T>> for Hear {
+    ghost use Rattle.hcc_rule.specs.PassedLogs.{told_logged, spent_logged};
+
+    ghost both = { told_logged };
+
+    ghost spent = { spent_logged };
+}
+
 /// How two views are joined: the client of the second ends.
 pub struct End;
 

@@ -1,8 +1,10 @@
 //! Steps on the occupancy word.
-ghost use Rattle.std.specs.Prelude.{◌≡◌, ◌+◌, ◌<◌, ◌≤◌, true, length};
+ghost use Rattle.std.specs.Prelude.{◌≡◌, ◌+◌, ◌<◌, ◌≤◌, ◌++◌, List, true, length};
 ghost use Rattle.hcc_core.specs.declared.client.Place.TheVariants.{Absent};
 ghost use Rattle.hcc_core.specs.World.{occupied_by, is_placed, limit_of};
 ghost use Rattle.hcc_rule.specs.declared.layout.TheConstants.{OCCUPANCY};
+ghost use Rattle.hcc_rule.specs.declared.view.Done.{Done};
+ghost use Rattle.hcc_rule.specs.Acts.{heard, past};
 ghost use Rattle.hcc_rule.specs.Callers.{plan_of, IsEvent, IsSeatAt};
 ghost use Rattle.hcc_rule.specs.Addresses.{address_of_ledger};
 ghost use Rattle.hcc_rule.specs.Events.{enter_done, occupancy_done, quit_done, slots_done};
@@ -42,7 +44,8 @@ impl<T: Tag, A: Allocator> RuleTable<T, A> {
     /// freed and haven't given back. The client's own place and freed slots are among them, with
     /// the entries that it holds references on, each once. It is at most the limit, with an open
     /// place for each client. Where the shard has one client it is exact: what the client showed
-    /// and didn't take, with what it has in hand.
+    /// and didn't take, with what it has in hand. What the seat knows of the history goes on from
+    /// what the witness told it that it followed last.
     ///
     /// It allocates nothing. It costs one load.
     pub fn occupancy(&self, seat: &mut RuleSeat<T>) -> u64
@@ -59,6 +62,7 @@ impl<T: Tag, A: Allocator> RuleTable<T, A> {
         ensures step { Makes (address_of_ledger self.now OCCUPANCY) 0 0 result seat.old seat.new }
         ensures event { IsEvent self.now (occupancy_done result (view seat.old))
             seat.old seat.new }
+        ensures heard { (more : List Done) × (past seat.new ≡ heard seat.old ++ more) }
     {
         self.load::<Brand, _>(seat, self.ledger(OCCUPANCY), ())
     }

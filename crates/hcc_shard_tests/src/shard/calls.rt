@@ -24,6 +24,8 @@ pub(super) enum Call<'v> {
     Again(u64),
     Release(u64, Use, IfLast),
     Read(u64),
+    /// Of the value of a pin's entry, from an offset on, for so many bytes of room.
+    Part(u64, usize, usize),
     /// By the name of a standalone entry.
     Fall(u64),
     /// Of the key.
@@ -55,6 +57,8 @@ pub(super) enum Answer {
     Hidden(u32),
     /// The key, how long the value is, and its bytes with 0 behind them.
     Entry(u64, u64, usize, [u8; 16]),
+    /// How many bytes were given of how many, and the buffer, of which no other byte changed.
+    Part(usize, usize, [u8; 24]),
     /// The word, and how often the slot stands in trails.
     Slot(u64, u64),
     /// The usage, the occupancy and the pinned usage.
@@ -118,6 +122,10 @@ fn answers(rt: &impl Abort, me: &mut Guest, call: Call) -> Result<Answer, AllocE
         Call::Read(name) => {
             let (key, length, bytes) = me.read(rt, name);
             Answer::Entry(key.w0, key.w1, length, bytes)
+        }
+        Call::Part(name, offset, room) => {
+            let (part, bytes) = me.part(rt, name, offset, room);
+            Answer::Part(part.given, part.length, bytes)
         }
         Call::Fall(name) => {
             me.fall(rt, name);

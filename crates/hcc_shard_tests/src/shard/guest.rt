@@ -12,7 +12,7 @@ use crate::any::AnyBytes;
 use hcc_charge::Refused;
 use hcc_core::client::Standalone;
 use hcc_rule::{Draft, Geometry, Key};
-use hcc_shard::{Inserted, Pinned, Shard, ShardSeat};
+use hcc_shard::{Inserted, Part, Pinned, Shard, ShardSeat};
 use hcc_table::{IfLast, NoList, Pin, Use};
 use std::alloc::{AllocError, Global};
 use std::process::Abort;
@@ -22,6 +22,9 @@ pub(super) type Store = Shard<AnyBytes, Global>;
 
 /// How many calls a guest makes at most.
 const MOST: u64 = 1_000_000;
+
+/// The bytes of a buffer before a part is read into it.
+pub(super) const BEHIND: u8 = 0xee;
 
 /// The seat of a client at a shard.
 #[derive(Drop)]
@@ -207,6 +210,29 @@ impl Guest<'_> {
         let count = self.shard.read_value(&mut self.seat, pin, &mut bytes);
         assert_eq!(rt; count, length);
         (key, length, bytes)
+    }
+
+    /// A part of the value of a pin's entry, read into the front of a buffer that is longer.
+    pub(super) fn part(
+        &mut self,
+        rt: &impl Abort,
+        name: u64,
+        offset: usize,
+        room: usize,
+    ) -> (Part, [u8; 24])
+        requires keeps { IsGuest self.old.shard.now self.old.seat self.old.pins.items
+            self.old.standing.items self.old.next }
+        ensures same { self.new.shard ≡ self.old.shard }
+        ensures keeps { IsGuest self.new.shard.now self.new.seat self.new.pins.items
+            self.new.standing.items self.new.next }
+    {
+        assert!(rt; room <= 24, "there is no such room");
+        let pin = self.pin(rt, name);
+        let mut bytes = [BEHIND; 24];
+        let part = self
+            .shard
+            .read_part(&mut self.seat, pin, offset, &mut bytes[..room]);
+        (part, bytes)
     }
 
     /// The usage, the occupancy and the pinned usage.

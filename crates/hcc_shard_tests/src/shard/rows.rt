@@ -42,7 +42,7 @@ pub(super) fn of(capacity: u32, strict: bool) -> Start {
 
 /// A shard of one client, who makes calls, after it kept the entries of the first keys with a
 /// charge of 1 each. What is left of it.
-fn row(
+pub(super) fn row(
     rt: &impl Abort,
     alloc: Global,
     start: Start,

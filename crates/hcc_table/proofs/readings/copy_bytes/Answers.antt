@@ -1,64 +1,9 @@
-use Rattle.std.proofs.Common.{ℕ, ◌+◌, ◌*◌, ◌/◌, ◌<◌, arith}
-use Rattle.hcc_table.proofs.Seeking.{seeks_then}
-use Rattle.hcc_table.proofs.Values.{reads_words, reads_rest}
+use Rattle.hcc_rule.specs.Seats.{view}
+use Rattle.hcc_rule.specs.Records.{record_in}
+use Rattle.hcc_table.proofs.Values.{all_filled}
 use Rattle.hcc_table.proofs.readings.copy_bytes.Goals as goal
 
-pub loop-block-preserved : goal.loop-block-preserved
-loop-block-preserved g c =
-    let told = c.copy_lines.ensures in
-    let low : c.loop-block.block < c.args.count / 8 / 32 = c.loop-block-test.true in
-    let so_far = c.loop-block.invariant.1 in
-    let all = told.steps in (
-      reads_words c.args.held.pin.name c.args.count 32 c.args.seat.now c.args.buffer.now
-          c.requires.exact (32 * c.loop-block.block) (32 * (c.loop-block.block + 1))
-          c.loop-block.seat c.copy_lines.new.seat c.loop-block.buffer c.copy_lines.new.buffer
-          (omega arith) (omega arith) c.loop-block.invariant.0 told.seat told.view told.bytes,
-      omega arith,
-      seeks_then c.args.table.now c.args.seat.now c.loop-block.seat c.copy_lines.new.seat
-          c.loop-block.invariant.2 told.seeks,
-    )
-
-pub loop-part-preserved : goal.loop-part-preserved
-loop-part-preserved g c =
-    let told = c.copy_word.ensures in
-    let at : ℕ = 4 * c.loop-four.four + c.loop-part.part in
-    let low : c.loop-four.four < c.args.count / 8 / 4 = c.loop-four-test.true in
-    let few : c.loop-part.part < 4 = c.loop-part-test.true in
-    let so_far = c.loop-part.invariant.1 in
-    let one = told.steps in (
-      reads_words c.args.held.pin.name c.args.count 1 c.args.seat.now c.args.buffer.now
-          c.requires.exact at (4 * c.loop-four.four + (c.loop-part.part + 1))
-          c.loop-part.seat c.copy_word.new.seat c.loop-part.buffer c.copy_word.new.buffer
-          (omega arith) (omega arith) c.loop-part.invariant.0 told.seat told.view told.bytes,
-      omega arith,
-      seeks_then c.args.table.now c.args.seat.now c.loop-part.seat c.copy_word.new.seat
-          c.loop-part.invariant.2 told.seeks,
-    )
-
-pub loop-index-preserved : goal.loop-index-preserved
-loop-index-preserved g c =
-    let told = c.copy_word-in-loop-index.ensures in
-    let so_far = c.loop-index.invariant.1 in
-    let one = told.steps in (
-      reads_words c.args.held.pin.name c.args.count 1 c.args.seat.now c.args.buffer.now
-          c.requires.exact c.loop-index.index (c.loop-index.index + 1)
-          c.loop-index.seat c.copy_word-in-loop-index.new.seat c.loop-index.buffer
-          c.copy_word-in-loop-index.new.buffer (omega arith) (omega arith)
-          c.loop-index.invariant.0 told.seat told.view told.bytes,
-      omega arith,
-      seeks_then c.args.table.now c.args.seat.now c.loop-index.seat
-          c.copy_word-in-loop-index.new.seat c.loop-index.invariant.2 told.seeks,
-    )
-
-pub returns-then-rest-gt0-clause-bytes : goal.returns-then-rest-gt0-clause-bytes
-returns-then-rest-gt0-clause-bytes g c =
-    reads_rest c.args.held.pin.name c.loop-index.index c.args.count c.args.seat.now
-    c.loop-index.seat c.args.buffer.now c.loop-index.buffer c.copy_word-then-rest-gt0.new.buffer
-    c.loop-index-test.false (c.loop-index.auto.index-end (omega arith))
-    c.requires.exact c.loop-index.invariant.0 c.copy_word-then-rest-gt0.ensures.bytes
-
-pub returns-then-rest-gt0-clause-seeks : goal.returns-then-rest-gt0-clause-seeks
-returns-then-rest-gt0-clause-seeks g c =
-    seeks_then c.args.table.now c.args.seat.now c.loop-index.seat
-    c.copy_word-then-rest-gt0.new.seat c.loop-index.invariant.2
-    c.copy_word-then-rest-gt0.ensures.seeks
+pub returns-clause-bytes : goal.returns-clause-bytes
+returns-clause-bytes g c =
+    all_filled (record_in c.args.held.pin.name (view c.args.seat.now).records) c.args.count
+    c.args.buffer.now c.copy_from.new.buffer c.requires.exact c.copy_from.ensures.bytes

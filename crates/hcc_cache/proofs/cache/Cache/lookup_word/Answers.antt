@@ -270,7 +270,7 @@ returns-in_default-clause-searched g c =
     let told = c.lookup_word.ensures.searches in
     searched_reading_at cache old new i shard was is at change g.T.Tag.fits c.args.key None here
     _ told.0 (ap (λ o. is_some (option_map (λ got. got.0) o)) c.in_default.is)
-    (rw words at told.1) told.2
+    (rw words at told.1) told.2 told.3
 
 pub returns-in_default-clause-stays : goal.returns-in_default-clause-stays
 returns-in_default-clause-stays g c =
@@ -353,7 +353,7 @@ returns-clause-searched g c =
     searched_reading_at cache old new i shard was is at change g.T.Tag.fits c.args.key
     (Some c.keep.result) here
     _ told.0 (ap (λ o. is_some (option_map (λ got. got.0) o)) c.in-Some.is)
-    (rw words at told.1) told.2
+    (rw words at told.1) told.2 told.3
 
 pub returns-clause-stays : goal.returns-clause-stays
 returns-clause-stays g c =

@@ -419,13 +419,15 @@ returns-clause-held c =
     let word = subst (λ (r : Record). 0 < length r.entry.value
     → c.first_word-word.result ≡ payload_word r.entry.value 0) (sym it) exact in
     record {
-      finds = all;
-      home = sym here;
-      on = ap (λ (r : Record). r.slot) it ∙ found.on;
+      holds = record {
+        finds = all;
+        home = sym here;
+        on = ap (λ (r : Record). r.slot) it ∙ found.on;
+        charge_is = ap (λ (r : Record). r.entry.charge) it ∙ sym charged;
+      };
       object =
           bytes_again all.found.entry.value c.first_word-word.result all.right all.finds.bytes
           (word (let eight = all.right in omega arith)) ∙ ap object_bytes (sym c.of.ensures);
-      charge = ap (λ (r : Record). r.entry.charge) it ∙ sym charged;
     }
 
 pub returns-clause-list : goal.returns-clause-list

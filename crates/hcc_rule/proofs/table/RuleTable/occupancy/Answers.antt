@@ -1,6 +1,7 @@
 use Rattle.std.proofs.Common.{ap, refl, is_some}
 use Rattle.hcc_rule.specs.Callers.{plan_of}
 use Rattle.hcc_rule.proofs.Ledgers.OccupancySteps.{occupancy_step}
+use Rattle.hcc_rule.proofs.Seats.Histories.{moved}
 use Rattle.hcc_rule.specs.Rule.{setup_of}
 use Rattle.hcc_rule.proofs.table.RuleTable.occupancy.Goals as goal
 
@@ -14,3 +15,8 @@ load-requires g c =
           (ap is_some seat.tagged) (rw planned.0 c.ledger.ensures.value)
           (setup_of (plan_of c.args.self.now)) refl,
     )
+
+pub returns-clause-heard : goal.returns-clause-heard
+returns-clause-heard g c =
+    let did = c.load.ensures.does in
+    c.load.ensures.hears (moved _ _ _ did.3 _ _ did.4.3 did.5)

@@ -70,6 +70,7 @@ returns-in-Some-clause-searches g c = (
   record c.args.seat.now { seat = c.find.new.seat; effort = c.find.new.effort },
   c.in-Some.ensures.searches,
   c.read_word-word.ensures.seeks,
+  c.read_word-word.ensures.view,
 )
 
 pub returns-in-None-clause-searches : goal.returns-in-None-clause-searches
@@ -77,6 +78,7 @@ returns-in-None-clause-searches g c = (
   record c.args.seat.now { seat = c.find.new.seat; effort = c.find.new.effort },
   c.in-None.ensures.searches,
   seeks_none c.args.self.now.table c.find.new.seat,
+  refl,
 )
 
 pub returns-in-Some-clause-steps : goal.returns-in-Some-clause-steps

@@ -1,0 +1,7 @@
+use Rattle.hcc_table.proofs.Seeking.{seeks_then}
+use Rattle.hcc_table.proofs.parts.read_part.Goals as goal
+
+pub returns-clause-seeks : goal.returns-clause-seeks
+returns-clause-seeks g c =
+    seeks_then c.args.table.now c.args.seat.now c.read_len-length.new.seat
+    c.copy_part-given.new.seat c.read_len-length.ensures.seeks c.copy_part-given.ensures.seeks
