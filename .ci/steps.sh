@@ -56,7 +56,8 @@ fi
 
 # Begins a step that goes on beside others and gives way to them, once rt ci has said these words of a
 # crate and the file is there, or it has ended; without words, once the file is there, if one is named.
-# Its words and its seconds are kept: beside NAME WORDS FILE WORD..
+# The library, for which many wait, gives way to nothing. Its words and its seconds are kept:
+# beside NAME WORDS FILE WORD..
 beside() {
     names+=("$1")
     began_beside "$@" > "$folder/$1" 2>&1 &
@@ -70,7 +71,7 @@ began_beside() {
         sleep 2
     done
     from=$SECONDS
-    nice -n 5 "$@"
+    nice -n "$([[ $name == library ]] && echo 0 || echo 5)" "$@"
     ended=$?
     echo "$ended $((SECONDS - from))" > "$folder/$name.ended"
 }

@@ -7,4 +7,5 @@
 mod block;
 #[cfg(test)]
 mod cache;
+#[cfg(test)]
 pub mod chains;
