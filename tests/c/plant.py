@@ -72,6 +72,7 @@ SHARED = [
     ("erase", "leaves out a probe", "hold(at)", "n != 1 && hold(at)"),
     ("place", "hides what it placed", "return placing::PLACED;",
      f"slots_[at].meta &= {SOMETIMES} ? HIDES : ~uint64_t{{0}}; return placing::PLACED;"),
+    ("pin_at", "passes over what is there", "hold(at)", f"!{SOMETIMES} && hold(at)"),
 ]
 
 # A bug: the file, the function, what is written for what, the file's text with it, and whether only the

@@ -1,7 +1,7 @@
 /* Threads look up what they know to be there, or to be gone: what was placed is found until somebody begins to erase
- * it, or an eviction reaches it, and what was erased isn't until somebody begins to insert it. The first look-up that
- * neither explains ends the program. A cache of bytes and one of objects, each large enough to evict nothing, and
- * too small for its keys.
+ * it, or an eviction reaches it, and what was erased isn't until somebody begins to insert it. So do walks, which give
+ * what is there all the while, once. The first that neither explains ends the program. A cache of bytes and one of
+ * objects, each large enough to evict nothing, and too small for its keys.
  * Usage: promises [OPERATIONS]     so many of all threads, of each kind: 1,000,000 by default */
 #include "ferretgold_object.h"
 
@@ -11,6 +11,7 @@
 #include <stdlib.h>
 
 enum { THREADS = 4, PHASES = 2, HANDLES = 16, PLACES = 84 /* of a hundred slots */ };
+enum { BETWEEN = 256, STRIDE = 32 }; /* operations between two walks, the most slots that a call looks at, and 1 */
 
 /* Keys that all fight for, then one of each thread, which no other one inserts or erases, and the last,
  * which is pinned all the time, and nobody erases it. Many begin at the same slot. */
@@ -51,6 +52,7 @@ typedef struct owned {
 
 typedef struct counts {
     uint64_t there, gone, evicted; /* look-ups that had to find, that had to miss, that only an eviction explains */
+    uint64_t walked;               /* keys that a walk had to give */
 } counts;
 
 typedef struct worker {
@@ -62,7 +64,14 @@ typedef struct worker {
     counts did;
 } worker;
 
-/* The calls of a kind of cache: `insert` gives a handle if one is asked for and the entry is placed. */
+/* How often a walk gave each key. */
+typedef struct given {
+    worker *it;
+    uint64_t times[KEYS];
+} given;
+
+/* The calls of a kind of cache: `insert` gives a handle if one is asked for and the entry is placed; `walk` is a call
+ * of a walk. */
 typedef struct calls {
     const char *name;
     void (*open)(const shape *shape);
@@ -74,6 +83,7 @@ typedef struct calls {
     void (*release)(worker *it, const handle *handle);
     bool (*insert)(worker *it, uint64_t key, handle *handle);
     uint32_t (*erase)(worker *it, uint64_t key);
+    ferretgold_status (*walk)(given *all, ferretgold_place *place, uint64_t slots);
 } calls;
 
 static book books[KEYS];
@@ -94,6 +104,14 @@ static uint64_t drawn(worker *it, uint64_t below) {
 /* A key whose first look is at one of a few slots, with steps of its own from there. */
 static ferretgold_key key_of(uint64_t number) {
     return (ferretgold_key){2 * (number / HOMES) + 1, number % HOMES};
+}
+
+/* Notes that a walk gave a key. Whether its call goes on. */
+static bool is_given(given *all, const ferretgold_key *name) {
+    const uint64_t key = name->w0 / 2 * HOMES + name->w1;
+    must(key < KEYS && name->w0 % 2 == 1 && name->w1 < HOMES, "a walk gave a key that is none", key, name->w0);
+    all->times[key]++;
+    return drawn(all->it, 8) > 0;
 }
 
 /* Whether an insertion has placed its entry. What stands alone goes at once. */
@@ -170,6 +188,20 @@ static uint32_t bytes_erase(worker *it, uint64_t key) {
     return hidden;
 }
 
+static bool bytes_seen(void *to, const ferretgold_held_entry *held) {
+    given *all = to;
+    uint64_t value = KEYS;
+    size_t length = 0;
+    must(ferretgold_read_value(all->it->client, held->handle, &value, sizeof value, &length) == FERRETGOLD_OK
+             && length == sizeof value && key_of(value).w0 == held->key.w0 && key_of(value).w1 == held->key.w1,
+         "the value of what a walk holds", value, length);
+    return is_given(all, &held->key);
+}
+
+static ferretgold_status bytes_walk(given *all, ferretgold_place *place, uint64_t slots) {
+    return ferretgold_walk(all->it->client, place, slots, bytes_seen, all);
+}
+
 /* ---- Objects: that of a key is an element of a list ------------------------------------------ */
 
 static ferretgold_object_cache *of_objects;
@@ -234,6 +266,17 @@ static uint32_t objects_erase(worker *it, uint64_t key) {
     return hidden;
 }
 
+static bool objects_seen(void *to, const ferretgold_object_handle *held) {
+    const size_t key = (size_t)((char *)held->object - objects);
+    must(key < KEYS && key_of(key).w0 == held->key.w0 && key_of(key).w1 == held->key.w1,
+         "the object of what a walk holds", key, 0);
+    return is_given(to, &held->key);
+}
+
+static ferretgold_status objects_walk(given *all, ferretgold_place *place, uint64_t slots) {
+    return ferretgold_object_walk(of_objects, place, slots, objects_seen, all);
+}
+
 /* ---- What is known of a key ------------------------------------------------------------------ */
 
 /* 1 more than how many of these calls were begun, if all have ended; else 0. */
@@ -282,13 +325,20 @@ static bool looks_up(worker *it, uint64_t key) {
     return found;
 }
 
+/* Whether a key was there since it was shown so, and whether it was gone since it was erased so. */
+static bool has_stood(const book *of, uint64_t shown) {
+    return shown > atomic_load(&of->erasures.begun);
+}
+
+static bool has_lacked(const book *of, uint64_t erased) {
+    return erased > atomic_load(&of->insertions.begun);
+}
+
 /* Looks up a key that was shown once so many erasures had ended, and no eviction reaches it if it is kept. */
 static void finds(worker *it, uint64_t key, uint64_t shown, bool kept) {
     book *of = &books[key];
     const uint64_t erased = atomic_load(&of->erased);
-    const bool found = looks_up(it, key);
-    const bool is_there = shown > atomic_load(&of->erasures.begun);
-    const bool is_gone = erased > atomic_load(&of->insertions.begun);
+    const bool found = looks_up(it, key), is_there = has_stood(of, shown), is_gone = has_lacked(of, erased);
     must(!found || !is_gone, "found, though it was erased and not inserted since", key, erased);
     must(found || !is_there || !kept, "missed, though it was placed and not erased since", key, shown);
     it->did.there += found && is_there && kept;
@@ -335,9 +385,36 @@ static void holds(worker *it, uint64_t key) {
     }
 }
 
+/* Walks over the slots, some a call. Of what all fight for, two entries may be there. */
+static void walks(worker *it) {
+    uint64_t shown[KEYS], erased[KEYS];
+    given all = {.it = it};
+    ferretgold_place place = {0, 0};
+    ferretgold_status status = FERRETGOLD_OK;
+    for (uint64_t key = 0; key < KEYS; key++) {
+        shown[key] = atomic_load(&books[key].shown);
+        erased[key] = atomic_load(&books[key].erased);
+    }
+    while (status == FERRETGOLD_OK) {
+        status = it->calls->walk(&all, &place, drawn(it, STRIDE));
+    }
+    must(status == FERRETGOLD_MISS, "the status of a walk", 0, status);
+    for (uint64_t key = 0; key < KEYS; key++) {
+        const uint64_t times = all.times[key];
+        const bool is_there = is_kept(it, key) && has_stood(&books[key], shown[key]);
+        must(times == 0 || !has_lacked(&books[key], erased[key]), "walked over, though it was erased", key, times);
+        must(times == 1 || (times > 1 && key < FOUGHT) || !is_there, "not walked over once, though it was there", key,
+             times);
+        it->did.walked += is_there;
+    }
+}
+
 static void *work(void *argument) {
     worker *it = argument;
     for (uint64_t k = 0; k < it->operations; k++) {
+        if (drawn(it, BETWEEN) == 0) {
+            walks(it);
+        }
         const uint64_t key = drawn(it, KEYS), what = drawn(it, 16);
         if (what < 4) {
             uses_own(it);
@@ -395,6 +472,7 @@ static void ends(worker *it, counts *sum) {
     sum->there += it->did.there;
     sum->gone += it->did.gone;
     sum->evicted += it->did.evicted;
+    sum->walked += it->did.walked;
 }
 
 /* All threads on one cache, which is closed behind so many operations of each of them in each phase. */
@@ -425,9 +503,9 @@ static void round_of(const calls *calls, const shape *shape, uint64_t each, uint
 
 static const calls kinds[] = {
     {"bytes", bytes_open, bytes_close, bytes_begin, bytes_end, bytes_get, bytes_hold, bytes_release, bytes_insert,
-     bytes_erase},
+     bytes_erase, bytes_walk},
     {"objects", objects_open, objects_close, objects_begin, objects_begin, NULL, objects_hold, objects_release,
-     objects_insert, objects_erase},
+     objects_insert, objects_erase, objects_walk},
 };
 
 static const shape shapes[] = {
@@ -446,10 +524,11 @@ int main(int count, char **words) {
             for (uint64_t done = 0; done < all / SHAPES; done += each * PHASES * THREADS) {
                 round_of(&kinds[kind], &shapes[k], each, done, &sum);
             }
-            printf("promises: %s, %s: %llu look-ups had to find, %llu to miss, %llu evicted, 0 wrong\n",
+            printf("promises: %s, %s: %llu look-ups had to find, %llu to miss, %llu evicted, %llu walked, 0 wrong\n",
                    kinds[kind].name, shapes[k].name, (unsigned long long)sum.there, (unsigned long long)sum.gone,
-                   (unsigned long long)sum.evicted);
-            must(sum.there > all / SHAPES / 8 && sum.gone > all / SHAPES / 16, "too few were known", 0, k);
+                   (unsigned long long)sum.evicted, (unsigned long long)sum.walked);
+            must(sum.there > all / SHAPES / 8 && sum.gone > all / SHAPES / 16 && sum.walked > all / SHAPES / 256,
+                 "too few were known", 0, k);
             must((sum.evicted > 0) == shapes[k].evicts, "evictions", 0, sum.evicted);
         }
     }
