@@ -93,9 +93,9 @@ class Libraries:
 class Seeds:
     """What a check of each crate without an edit kept, which one lane makes for all parts."""
 
-    def __init__(self, crates, edits, libraries, say, log):
-        self.crates, self.edits, self.libraries, self.say, self.log = crates, edits, libraries, say, log
-        self.made, self.why, self.making = {}, {}, set()
+    def __init__(self, crates, edits, libraries, code, say, log):
+        self.crates, self.edits, self.libraries, self.code = crates, edits, libraries, code
+        self.say, self.log, self.made, self.why, self.making = say, log, {}, {}, set()
         self.left = collections.Counter(it.crate for it in edits)
 
     def folder_of(self, name):
@@ -108,7 +108,8 @@ class Seeds:
             crate, own = self.crates[name], [it for it in self.edits if it.crate == name]
             try:
                 begun = self.libraries.begun(crate)
-                made = make_seed(crate, own, rlibs, seed, begun, self.say, self.log)
+                reach = self.code.reach(name) if self.libraries.log else {}
+                made = make_seed(crate, own, reach, rlibs, seed, begun, self.say, self.log)
                 self.made[name], self.why[name] = made
             finally:
                 self.making.discard(name)
@@ -133,7 +134,7 @@ class Lanes:
     def __init__(self, crates, edits, libraries, end, say, log):
         self.crates, self.libraries, self.end, self.say, self.log = crates, libraries, end, say, log
         self.code, drawn = Code(crates, crates), draw()
-        self.seeds = Seeds(crates, edits, libraries, say, log)
+        self.seeds = Seeds(crates, edits, libraries, self.code, say, log)
         of = [[it for it in edits if it.crate == name] for name in crates]
         if end:
             of = [sorted(it, key=lambda edit: drawn(edit.key)) for it in of]

@@ -6,7 +6,7 @@ goes into a round with edits of other functions, each in its place. Each edited 
 goal of its own that isn't proved. What a round leaves in doubt, as a function that calls another one
 of the round, is tried again without that one, then alone, and then by a check of the whole crate. Each
 check begins with what one without an edit kept, the seed, in which the edited functions have to be
-proved, or nothing counts."""
+proved, or nothing counts; where rt ci proves the crate, too, what they call."""
 import os
 import shutil
 import tempfile
@@ -166,12 +166,15 @@ def in_room(crate, rlibs, seed, work):
         shutil.rmtree(temp, ignore_errors=True)
 
 
-def make_seed(crate, edits, rlibs, seed, begun, say, log):
+def make_seed(crate, edits, reach, rlibs, seed, begun, say, log):
     """Proves without an edit what these of a crate change: the functions, or all where one changes
-    more; over what another check kept, if there is a folder of one. Gives what tells whether the seed
-    is touched, or nothing where it isn't proved; and what was said."""
+    more; over what another check kept, if there is a folder of one. Where rt ci proves the crate, too,
+    it is known what each function reaches, and that is enough if it is less. Gives what tells whether
+    the seed is touched, or nothing where it isn't proved; and what was said."""
     wholes = [it for it in edits if not it.symbols and not it.errors and not it.verdict]
-    only = [] if wholes else sorted({symbol for it in edits for symbol in it.symbols})
+    edited = {symbol for it in edits for symbol in it.symbols}
+    reached = {symbol for it in edited for symbol in reach.get(it, ())}
+    only = [] if wholes else sorted(min(edited, reached or edited, key=len))
     if begun and os.path.isdir(begun):
         linked(begun, seed)
     status, said, took = in_room(crate, rlibs, seed, lambda room: room.check({}, only, log, makes_seed=True))
