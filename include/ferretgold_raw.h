@@ -187,6 +187,8 @@ uint32_t ferretgold_raw_object_charge(ferretgold_object *client, const ferretgol
 uint64_t ferretgold_raw_object_usage(ferretgold_object *client);
 uint64_t ferretgold_raw_object_pinned_usage(ferretgold_object *client);
 uint64_t ferretgold_raw_object_occupancy(ferretgold_object *client);
+void ferretgold_raw_object_stats_at(ferretgold_object *client, const ferretgold_key *key,
+                                    ferretgold_stats *stats);
 /* `placing` is of the numbers of ferretgold_inserted: an object that is placed is the cache's, one that
  * stands alone is the client's, and one that is dropped stays the caller's, as after a refusal. Where
  * it isn't placed, and after CAPACITY_FULL and OCCUPANCY_FULL, `list_full` says whether the client's

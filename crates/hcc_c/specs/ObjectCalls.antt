@@ -1,6 +1,6 @@
 -- What each call of a client of a cache of objects comes to: what it answers, and what it leaves of
 -- the session.
-use Rattle.std.specs.Prelude.{◌≡◌, ℕ, ◌+◌, ◌*◌, ◌/◌, ◌<◌, ◌≤◌, ◌^◌, ◌++◌, ◌∷◌, [], ◌↔◌, Bool, false, true, Option, Result, Err, IfOk, IfErr, IfSome, IfNone, None, Some, Ok, OnOk, OnErr, IsOk, IsErrOf, MatchResult, is_some, length}
+use Rattle.std.specs.Prelude.{◌≡◌, ℕ, ◌+◌, ◌*◌, ◌/◌, ◌<◌, ◌≤◌, ◌^◌, ◌++◌, ◌∷◌, [], ◌↔◌, Bool, false, true, Option, Result, Err, IfOk, IfErr, IfSome, IfNone, None, Some, Ok, OnOk, OnErr, IsOk, IsErrOf, MatchResult, is_some, length, slice_get}
 use Rattle.std.specs.Arc.{arc_value}
 use Rattle.hcc_word.specs.declared.objects.TheConstants.{ADDRESS_BITS}
 use Rattle.hcc_core.specs.declared.limits.TheConstants.{OCCUPANCY_PERCENT}
@@ -9,6 +9,7 @@ use Rattle.hcc_table.specs.declared.lists.Freed.{Freed}
 use Rattle.hcc_table.specs.AtSlots.{takes_one}
 use Rattle.hcc_table.specs.Lists.{has_room}
 use Rattle.hcc_table.specs.Steps.{freeing}
+use Rattle.hcc_shard.specs.Counted.{stats_of as counts_of}
 use Rattle.hcc_shard.specs.Inserted.{inserting_listed}
 use Rattle.hcc_cache.specs.declared.errors.LookupError.{LookupError}
 use Rattle.hcc_cache.specs.declared.errors.LookupError.TheVariants as look
@@ -32,10 +33,11 @@ use Rattle.hcc_c.specs.declared.object_session.ObjectSession.{ObjectSession}
 use Rattle.hcc_c.specs.declared.object_shapes.CHeldObject.{CHeldObject}
 use Rattle.hcc_c.specs.declared.shapes.Counts.{Counts}
 use Rattle.hcc_c.specs.declared.shapes.CHandle.{CHandle}
+use Rattle.hcc_c.specs.declared.shapes.Stats.{Stats}
 use Rattle.hcc_c.specs.ObjectCounts.{counted_look, counted_pinned, counted_put}
 use Rattle.hcc_c.specs.ObjectSessions.{IsHandle, IsNone, below, client_in, judged}
 use Rattle.hcc_c.specs.ObjectShapes.{c_held_of, object_of as object_in}
-use Rattle.hcc_c.specs.Shapes.{c_handle_of, words_of}
+use Rattle.hcc_c.specs.Shapes.{c_handle_of, stats_of, words_of}
 
 -- Nothing of the session changed but its client, and the counts are these.
 abbrev pub Keeps : Counts → (old new : ObjectSession) → Type 0
@@ -290,3 +292,9 @@ module _ (key : Key) (object : Object) (charge : ℕ) (priority : Priority) wher
         told))
     pub rest : IfOk answer (λ _. Keeps (counted_pinned answer old.counts) old new)
     pub steps : InsertsWithin old new
+
+-- What the client's calls did on the shard where a key belongs.
+abbrev pub TellsStats : Key → Stats → ObjectSession → Type 0
+TellsStats key answer session = (seat : _)
+    × (slice_get (client_in session).seats.items (shard_in (below session) key) ≡ Some seat)
+    × (answer ≡ stats_of (counts_of seat))

@@ -5,7 +5,7 @@ ghost use Rattle.std.specs.Prelude.{◌≡◌, None, IfSome};
 ghost use Rattle.hcc_cache.specs.ObjectsClosed.{untaken_of};
 ghost use Rattle.hcc_c.specs.Answers.{found_or, key_or, more_of, status_of, status_of_look, status_of_reref, value_or};
 ghost use Rattle.hcc_c.specs.ObjectAnswers.{full_of, full_of_pinned, gone_key_or, gone_object_or, handle_of_pinned, placing_of, placing_of_pinned, status_of_gone, status_of_pinned, status_of_put};
-ghost use Rattle.hcc_c.specs.ObjectCalls.{Charges, GivesBack, Hides, PinsAt, Puts, PutsPinned, RefersAgain, TakesGone, TellsCharge, TellsKey, TellsOccupancy, TellsPinned, TellsUsage};
+ghost use Rattle.hcc_c.specs.ObjectCalls.{Charges, GivesBack, Hides, PinsAt, Puts, PutsPinned, RefersAgain, TakesGone, TellsCharge, TellsKey, TellsOccupancy, TellsPinned, TellsStats, TellsUsage};
 ghost use Rattle.hcc_c.specs.ObjectLending.{IsThere};
 ghost use Rattle.hcc_c.specs.ObjectSessions.{IsWhole};
 ghost use Rattle.hcc_c.specs.ObjectShapes.{object_of};
@@ -17,7 +17,7 @@ use crate::object_answers::{told_gone, told_put, told_put_pinned};
 use crate::object_holders::ObjectClientAt;
 use crate::object_shapes::{CHeldObject, CObject};
 use crate::refusal::{Refusal, priority_of};
-use crate::shapes::{CHandle, Key};
+use crate::shapes::{CHandle, Key, Stats};
 
 /// Looks for an entry of the key in `held`, and gives the rest: the charge, too.
 #[unsafe(no_mangle)]
@@ -257,4 +257,18 @@ pub extern "C" fn ferretgold_raw_object_occupancy(client: &mut ObjectClientAt) -
     ensures tells { TellsOccupancy result client.old.value client.new.value }
 {
     client.session().occupancy()
+}
+
+#[unsafe(no_mangle)]
+pub extern "C" fn ferretgold_raw_object_stats_at(
+    client: &mut ObjectClientAt,
+    key: &Key,
+    stats: &mut Stats,
+)
+    requires { IsWhole client.old.value }
+    ensures there { IsThere client.old client.new }
+    ensures same { client.new.value ≡ client.old.value }
+    ensures stats { TellsStats (key_of key.now) stats.new client.old.value }
+{
+    *stats = client.session().stats_at(key.key());
 }

@@ -1,9 +1,9 @@
 //! What a client of a cache of objects reads.
-ghost use Rattle.hcc_c.specs.ObjectCalls.{TellsCharge, TellsKey, TellsOccupancy, TellsPinned, TellsUsage};
+ghost use Rattle.hcc_c.specs.ObjectCalls.{TellsCharge, TellsKey, TellsOccupancy, TellsPinned, TellsStats, TellsUsage};
 ghost use Rattle.hcc_c.specs.ObjectSessions.{IsWhole};
 
 use crate::object_session::ObjectSession;
-use crate::shapes::CHandle;
+use crate::shapes::{CHandle, Stats};
 use hcc_cache::Key;
 
 impl ObjectSession {
@@ -53,5 +53,13 @@ impl ObjectSession {
         ensures tells { TellsOccupancy result self.old self.new }
     {
         self.cache.occupancy(&mut self.client)
+    }
+
+    /// What its calls did on the shard where a key belongs.
+    pub fn stats_at(&self, key: Key) -> Stats
+        requires { IsWhole self.now }
+        ensures { TellsStats key result self.now }
+    {
+        Stats::counts(self.cache.stats_at(&self.client, key))
     }
 }

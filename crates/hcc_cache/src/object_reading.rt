@@ -1,7 +1,8 @@
 //! What clients read in a cache of objects.
-ghost use Rattle.std.specs.Prelude.{◌≡◌, ◌+◌, ◌*◌, ◌/◌, ◌≤◌, true, IfSome, length};
+ghost use Rattle.std.specs.Prelude.{◌≡◌, ◌+◌, ◌*◌, ◌/◌, ◌≤◌, true, IfSome, Some, length, slice_get};
 ghost use Rattle.hcc_core.specs.declared.limits.TheConstants.{OCCUPANCY_PERCENT};
-ghost use Rattle.hcc_cache.specs.Calls.{CountsNone, KeepsAll, Reads, TakesAtMost};
+ghost use Rattle.hcc_shard.specs.Counted.{stats_of};
+ghost use Rattle.hcc_cache.specs.Calls.{CountsNone, KeepsAll, Reads, TakesAtMost, shard_in};
 ghost use Rattle.hcc_cache.specs.Clients.{Holds, held_of};
 ghost use Rattle.hcc_cache.specs.Objects.{KnowsObjects, is_word};
 ghost use Rattle.hcc_cache.specs.Stays.{Stays};
@@ -10,6 +11,7 @@ ghost use Rattle.hcc_cache.specs.Totals.{CountsEach, LoadsEachOccupancy, LoadsEa
 use crate::handle::Handle;
 use crate::object_cache::{ObjectCache, ObjectClient};
 use hcc_rule::Key;
+use hcc_shard::Stats;
 
 impl ObjectCache {
     /// The key of the entry that a handle is on, as its insertion gave it.
@@ -101,5 +103,15 @@ impl ObjectCache {
             client.new.client }
     {
         self.cache.occupancy(&mut client.client)
+    }
+
+    /// What a client's calls did on the shard where a key belongs, as `Cache::stats_at` tells it.
+    pub fn stats_at(&self, client: &ObjectClient, key: Key) -> Stats
+        requires { KnowsObjects self.now client.now }
+        ensures { (seat : _)
+            × (slice_get client.now.client.seats.items (shard_in self.now.cache key) ≡ Some seat)
+            × (result ≡ stats_of seat) }
+    {
+        self.cache.stats_at(&client.client, key)
     }
 }
