@@ -4,6 +4,7 @@ use Rattle.std.specs.Global.{Global}
 use Rattle.hcc_rule.specs.declared.key.Key.{Key as CacheKey}
 use Rattle.hcc_table.specs.declared.optimistic.Got.{Got}
 use Rattle.hcc_table.specs.declared.optimistic.Got.TheVariants.{Hit, Miss, Short}
+use Rattle.hcc_cache.specs.declared.errors.CopyError.{CopyError}
 use Rattle.hcc_cache.specs.declared.errors.InsertError.{InsertError}
 use Rattle.hcc_cache.specs.declared.errors.LookupError.{LookupError}
 use Rattle.hcc_cache.specs.declared.errors.NewError.{NewError}
@@ -14,7 +15,7 @@ use Rattle.hcc_c.specs.declared.refusal.Refusal.TheVariants.{NoHandle, TooShort}
 use Rattle.hcc_c.specs.declared.shapes.Entry.{Entry}
 use Rattle.hcc_c.specs.declared.shapes.Key.{Key}
 use Rattle.hcc_c.specs.declared.shapes.CHandle.{CHandle}
-use Rattle.hcc_c.specs.Refusals.{code_of, inserted_code, inserting_of, looking_of, opening_of, unfit_of}
+use Rattle.hcc_c.specs.Refusals.{code_of, copying_of, inserted_code, inserting_of, looking_of, opening_of, unfit_of}
 use Rattle.hcc_c.specs.Shapes.{words_of}
 
 -- a value, or none
@@ -71,17 +72,17 @@ inserted_of (Ok (Err why)) old = old
 inserted_of (Err why) old = old
 
 -- an insertion with a handle
-abbrev pub status_of_pinned : Result (Result (CHandle × Inserted) InsertError) Unfit → ℕ
+abbrev pub status_of_pinned : Result (Result (CHandle × Inserted) CopyError) Unfit → ℕ
 status_of_pinned (Ok (Ok made)) = 0
-status_of_pinned (Ok (Err why)) = code_of (inserting_of why)
+status_of_pinned (Ok (Err why)) = code_of (copying_of why)
 status_of_pinned (Err why) = code_of (unfit_of why)
 
-abbrev pub inserted_of_pinned : Result (Result (CHandle × Inserted) InsertError) Unfit → ℕ → ℕ
+abbrev pub inserted_of_pinned : Result (Result (CHandle × Inserted) CopyError) Unfit → ℕ → ℕ
 inserted_of_pinned (Ok (Ok made)) old = inserted_code made.1
 inserted_of_pinned (Ok (Err why)) old = old
 inserted_of_pinned (Err why) old = old
 
-abbrev pub handle_of_pinned : Result (Result (CHandle × Inserted) InsertError) Unfit
+abbrev pub handle_of_pinned : Result (Result (CHandle × Inserted) CopyError) Unfit
     → CHandle → CHandle
 handle_of_pinned (Ok (Ok made)) old = made.0
 handle_of_pinned (Ok (Err why)) old = old

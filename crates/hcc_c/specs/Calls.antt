@@ -1,5 +1,5 @@
 -- What each call of a client comes to: what it answers, and what it leaves of the session.
-use Rattle.std.specs.Prelude.{◌≡◌, ℕ, ◌+◌, ◌-◌, ◌*◌, ◌/◌, ◌<◌, ◌≤◌, ◌++◌, ◌↔◌, Bool, true, false, List, Option, Some, Result, Ok, Err, IfOk, IfErr, IfSome, IfNone, OnOk, OnErr, IsOk, IsErrOf, IsOkUnless, MatchResult, None, drop, length, min, option_map, slice_get}
+use Rattle.std.specs.Prelude.{◌≡◌, ℕ, ◌+◌, ◌-◌, ◌*◌, ◌/◌, ◌<◌, ◌≤◌, ◌++◌, ◌↔◌, Bool, true, false, List, Option, Some, Result, Ok, Err, IfOk, IfErr, IfSome, IfNone, OnOk, OnErr, IsOk, IsErrOf, MatchResult, None, drop, length, min, option_map, slice_get}
 use Rattle.std.specs.Arc.{arc_value}
 use Rattle.hcc_core.specs.declared.limits.TheConstants.{OCCUPANCY_PERCENT}
 use Rattle.hcc_rule.specs.declared.key.Key.{Key}
@@ -11,6 +11,8 @@ use Rattle.hcc_table.specs.declared.optimistic.Got.{Got}
 use Rattle.hcc_shard.specs.Callers.{LoadsDisplacement, LoadsWord}
 use Rattle.hcc_shard.specs.Counted.{stats_of as counts_of}
 use Rattle.hcc_shard.specs.Inserted.{inserting, inserting_between}
+use Rattle.hcc_cache.specs.declared.errors.CopyError.{CopyError}
+use Rattle.hcc_cache.specs.declared.errors.CopyError.TheVariants as copy
 use Rattle.hcc_cache.specs.declared.errors.InsertError.{InsertError}
 use Rattle.hcc_cache.specs.declared.errors.InsertError.TheVariants as insert
 use Rattle.hcc_cache.specs.declared.errors.LookupError.{LookupError}
@@ -24,14 +26,13 @@ use Rattle.hcc_cache.specs.Alones.{AreAlone}
 use Rattle.hcc_cache.specs.Calls.{AcquiresFor, AtShard, CountsAt, CountsBy, CountsNone, Erases, ErasesFor, Finds, GivesUp, KeepsAll, Misses, OnlyAt, Reads, Releases, Rerefs, SearchesFor, TakesAtMost, TakesFor, Works, shard_in}
 use Rattle.hcc_cache.specs.Clients.{Holds, held_by, held_of, view_at}
 use Rattle.hcc_cache.specs.Gets.{GetsAt, GetsFor, SeeksAt}
-use Rattle.hcc_cache.specs.Inserts.{Inserts, InsertsAt, InsertsPinnedAt, InsertsWith, RefusesPinnedAt, RefusesWith}
+use Rattle.hcc_cache.specs.Inserts.{Inserts, InsertsAt, InsertsPinnedAt, InsertsWith, RefusesCopy, RefusesCopyAt}
 use Rattle.hcc_cache.specs.Moments.{KnowsShown}
 use Rattle.hcc_cache.specs.Stays.{ReleasesIn, Stays, StaysWhereStanding}
 use Rattle.hcc_cache.specs.Totals.{CountsEach, LoadsEachOccupancy, LoadsEachUsage, LoadsUsages, SearchesAll, charge_by, entries_by, made_by, taken_by}
 use Rattle.hcc_table.specs.Readings.{part_in, words_across}
 use Rattle.hcc_cache.specs.Walked.{HoldsEntryAt, IsSlotIn, PassesAt}
 use Rattle.hcc_c.specs.declared.inserting.Unfit.{Unfit}
-use Rattle.hcc_c.specs.declared.inserting.Unfit.TheVariants as reason
 use Rattle.hcc_c.specs.declared.session.Session.{Session}
 use Rattle.hcc_c.specs.declared.shapes.Counts.{Counts}
 use Rattle.hcc_c.specs.declared.shapes.CHandle.{CHandle}
@@ -159,10 +160,10 @@ module _ (key : Key) (charge : ℕ) (priority : Priority) (value : List ℕ) whe
   judged_by session =
       judged (8 * (arc_value session.cache).geometry.room) (length value) charge
 
-  -- how many steps an insertion takes at most
-  abbrev pub InsertsWithin : (old new : Session) → Type 0
-  InsertsWithin old new = TakesAtMost (inserting (arc_value old.cache).geometry.slots
-      (arc_value old.cache).geometry.room) old.client new.client
+  -- how many steps an insertion takes at most, and so many more
+  abbrev pub InsertsWithin : (more : ℕ) → (old new : Session) → Type 0
+  InsertsWithin more old new = TakesAtMost (inserting (arc_value old.cache).geometry.slots
+      (arc_value old.cache).geometry.room + more) old.client new.client
 
   -- and how many for what it visits and frees, where it isn't refused at once
   abbrev pub InsertsFor : (old new : Session) → Type 0
@@ -192,19 +193,18 @@ module _ (key : Key) (charge : ℕ) (priority : Priority) (value : List ℕ) whe
         old.client new.client)
     pub frees : IfOk answer (λ _. InsertsFor old new)
     pub rest : KeepsCounting (counted_insert answer old.counts) old new
-    pub steps : InsertsWithin old new
+    pub steps : InsertsWithin 0 old new
 
-  -- An insertion with a handle.
-  pub record PutsPinned (answer : Result (Result (CHandle × Inserted) InsertError) Unfit)
+  -- An insertion with a handle. Memory for a copy is refused last.
+  pub record PutsPinned (answer : Result (Result (CHandle × Inserted) CopyError) Unfit)
       (old new : Session) : Type 0 where
     pub unfit : IfErr (judged_by old) (λ why. (answer ≡ Err why) × (new ≡ old))
-    pub memory : OnOk (judged_by old) (IsOkUnless answer reason.OutOfMemory)
-    pub nothing : OnErr answer (new ≡ old)
-    pub full : IfOk answer (λ a. IsErrOf a insert.HandlesFull
+    pub fit : OnOk (judged_by old) (IsOk answer)
+    pub full : IfOk answer (λ a. IsErrOf a (copy.Refused insert.HandlesFull)
         ↔ (held_by old.client ≡ old.client.most))
-    pub spent : IfOk answer (λ a. IsErrOf a insert.Spent
+    pub spent : IfOk answer (λ a. IsErrOf a (copy.Refused insert.Spent)
         ↔ ((held_by old.client < old.client.most) × (old.client.left ≡ 0)))
-    pub large : IfOk answer (λ a. IsErrOf a insert.TooLarge
+    pub large : IfOk answer (λ a. IsErrOf a (copy.Refused insert.TooLarge)
         ↔ ((held_by old.client < old.client.most) × (0 < old.client.left)
         × ((arc_value old.cache).strict ≡ true)
         × ((arc_value old.cache).capacity < charge)))
@@ -213,21 +213,23 @@ module _ (key : Key) (charge : ℕ) (priority : Priority) (value : List ℕ) whe
         × InsertsWith (arc_value old.cache) key charge priority value handle made.1
         old.client new.client
         × (made.0 ≡ c_handle_of old.cache_number handle))
-        (λ why. RefusesWith (arc_value old.cache) key charge priority value why
+        (λ why. RefusesCopy (arc_value old.cache) key charge priority value why
         old.client new.client))
     pub evicts : IfOk answer (λ a. MatchResult a
         (λ made. InsertsPinnedAt (arc_value old.cache) any key charge priority made.1
         old.client new.client)
-        (λ why. RefusesPinnedAt (arc_value old.cache) any key charge priority why
+        (λ why. RefusesCopyAt (arc_value old.cache) any key charge priority why
         old.client new.client))
     pub shown : IfOk answer (λ a. (arc_value old.cache).geometry.clients ≡ 1
         → IfOk a (λ made. made.1 ≡ Placed
         → KnowsShown (arc_value old.cache) key new.client))
     pub others : IfOk answer (λ _. OnlyAt (shard_in (arc_value old.cache) key)
         old.client new.client)
-    pub frees : IfOk answer (λ _. held_by old.client < old.client.most → InsertsFor old new)
+    pub frees : IfOk answer (λ a. held_by old.client < old.client.most
+        → ¬ IsErrOf a copy.OutOfMemory → InsertsFor old new)
     pub rest : KeepsCounting (counted_pinned answer old.counts) old new
-    pub steps : InsertsWithin old new
+    pub held : IfOk answer (λ a. ¬ IsErrOf a copy.OutOfMemory → InsertsWithin 0 old new)
+    pub steps : InsertsWithin 2 old new
 
 -- The key of the handle of these parts is told; none where it is that of none.
 pub record TellsKey (c_handle : CHandle) (answer : Option Key) (old new : Session) : Type 0 where

@@ -2,6 +2,7 @@
 use Rattle.std.specs.Prelude.{Option, Some, None, Result, Ok, Err}
 use Rattle.hcc_table.specs.declared.optimistic.Got.{Got}
 use Rattle.hcc_table.specs.declared.optimistic.Got.TheVariants.{Hit, Miss, Short}
+use Rattle.hcc_cache.specs.declared.errors.CopyError.{CopyError}
 use Rattle.hcc_cache.specs.declared.errors.InsertError.{InsertError}
 use Rattle.hcc_cache.specs.declared.errors.LookupError.{LookupError}
 use Rattle.hcc_cache.specs.declared.inserting.Inserted.{Inserted}
@@ -53,7 +54,7 @@ counted_insert (Ok (Ok what)) counts = one_inserted what counts
 counted_insert (Ok (Err why)) counts = one_refused counts
 counted_insert (Err why) counts = counts
 
-abbrev pub counted_pinned : Result (Result (CHandle × Inserted) InsertError) Unfit
+abbrev pub counted_pinned : Result (Result (CHandle × Inserted) CopyError) Unfit
     → Counts → Counts
 counted_pinned (Ok (Ok made)) counts = one_inserted made.1 counts
 counted_pinned (Ok (Err why)) counts = one_refused counts

@@ -4,6 +4,8 @@ use Rattle.hcc_cache.specs.declared.errors.NewError.{NewError}
 use Rattle.hcc_cache.specs.declared.errors.NewError.TheVariants as new
 use Rattle.hcc_cache.specs.declared.errors.LookupError.{LookupError}
 use Rattle.hcc_cache.specs.declared.errors.LookupError.TheVariants as look
+use Rattle.hcc_cache.specs.declared.errors.CopyError.{CopyError}
+use Rattle.hcc_cache.specs.declared.errors.CopyError.TheVariants as copy
 use Rattle.hcc_cache.specs.declared.errors.InsertError.{InsertError}
 use Rattle.hcc_cache.specs.declared.errors.InsertError.TheVariants as insert
 use Rattle.hcc_cache.specs.declared.errors.ObjectError.{ObjectError}
@@ -81,6 +83,11 @@ inserting_of insert.TooLarge = TooLarge
 inserting_of insert.CapacityFull = CapacityFull
 inserting_of insert.OccupancyFull = OccupancyFull
 
+-- why nothing is inserted of a value that is copied where it stands alone
+abbrev pub copying_of : CopyError → Refusal
+copying_of (copy.Refused why) = inserting_of why
+copying_of copy.OutOfMemory = OutOfMemory
+
 -- why no object is inserted
 abbrev pub inserting_object_of : ObjectError → Refusal
 inserting_object_of object.HandlesFull = HandlesFull
@@ -95,7 +102,6 @@ inserting_object_of (object.OccupancyFull full) = OccupancyFull
 abbrev pub unfit_of : Unfit → Refusal
 unfit_of unfit.NoCharge = NoCharge
 unfit_of unfit.TooLong = TooLong
-unfit_of unfit.OutOfMemory = OutOfMemory
 
 -- the priority of a number, if it is that of one
 abbrev pub priority_of : ℕ → Option Priority

@@ -9,7 +9,7 @@ use crate::objects::{CachePlace, ClosedPlace, ImagePlace, Loose};
 use crate::pool::Pool;
 use crate::refusal::{Refusal, inserted_code};
 use crate::shapes::{CHandle, Entry, Key};
-use hcc_cache::{Got, InsertError, Inserted, LookupError};
+use hcc_cache::{CopyError, Got, InsertError, Inserted, LookupError};
 
 /// The answers that are no refusals.
 pub(crate) const DONE: u32 = 0;
@@ -112,7 +112,7 @@ pub(crate) fn told_insert(
 
 /// Gives C what came of an insertion with a handle.
 pub(crate) fn told_pinned(
-    answer: Result<Result<(CHandle, Inserted), InsertError>, Unfit>,
+    answer: Result<Result<(CHandle, Inserted), CopyError>, Unfit>,
     inserted: &mut u32,
     handle: &mut CHandle,
 ) -> u32
@@ -126,7 +126,7 @@ pub(crate) fn told_pinned(
             *inserted = inserted_code(what);
             DONE
         }
-        Ok(Err(why)) => Refusal::inserting(why).code(),
+        Ok(Err(why)) => Refusal::copying(why).code(),
         Err(why) => Refusal::unfit(why).code(),
     }
 }

@@ -5,7 +5,7 @@ ghost use Rattle.hcc_c.specs.Sessions.{IsWhole, judged};
 
 use crate::session::Session;
 use crate::shapes::CHandle;
-use hcc_cache::{InsertError, Inserted, Key, Priority};
+use hcc_cache::{CopyError, InsertError, Inserted, Key, Priority};
 use std::alloc::Global;
 
 /// Why the cache isn't asked to insert a value.
@@ -15,8 +15,6 @@ pub enum Unfit {
     NoCharge,
     /// The value has more bytes than a slot has room for.
     TooLong,
-    /// A copy of the value couldn't be allocated; only of insertions that give a handle.
-    OutOfMemory,
 }
 
 impl Session {
@@ -41,8 +39,8 @@ impl Session {
         Ok(answer)
     }
 
-    /// The same with a handle on what was inserted, which is given by its numbers. Memory is
-    /// allocated for a copy of the value.
+    /// The same with a handle on what was inserted, which is given by its numbers. The value is
+    /// copied where it comes to stand alone.
     pub fn insert_copied(
         &mut self,
         alloc: Global,
@@ -50,21 +48,23 @@ impl Session {
         value: &[u8],
         charge: u32,
         priority: Priority,
-    ) -> Result<Result<(CHandle, Inserted), InsertError>, Unfit>
+    ) -> Result<Result<(CHandle, Inserted), CopyError>, Unfit>
         requires { IsWhole self.old }
         ensures whole { IsWhole self.new }
         ensures puts { PutsPinned key charge priority value.now result self.old self.new }
     {
         judge(self.cache.room(), value.len(), charge)?;
-        let Ok(copy) = value.to_vec(alloc) else {
-            return Err(Unfit::OutOfMemory);
-        };
-        let answer = self
-            .cache
-            .insert_pinned(&mut self.client, key, copy, charge, priority);
+        let answer = self.cache.insert_pinned_copy(
+            alloc,
+            &mut self.client,
+            key,
+            value,
+            charge,
+            priority,
+        );
         let told = match answer {
             Ok((handle, inserted)) => Ok((CHandle::of(self.cache_number, handle), inserted)),
-            Err((why, _)) => Err(why),
+            Err(why) => Err(why),
         };
         self.counts.insert_pinned(told);
         Ok(told)

@@ -1,10 +1,10 @@
 //! Why a call does nothing, and their numbers in C.
 ghost use Rattle.std.specs.Prelude.{◌≡◌};
-ghost use Rattle.hcc_c.specs.Refusals.{code_of, inserted_code, inserting_object_of, inserting_of, looking_of, opening_objects_of, opening_of, placing_code, priority_of, unfit_of};
+ghost use Rattle.hcc_c.specs.Refusals.{code_of, copying_of, inserted_code, inserting_object_of, inserting_of, looking_of, opening_objects_of, opening_of, placing_code, priority_of, unfit_of};
 
 use crate::inserting::Unfit;
 use hcc_cache::{
-    InsertError, Inserted, LookupError, NewError, ObjectError, ObjectNewError, Placing, Priority,
+    CopyError, InsertError, Inserted, LookupError, NewError, ObjectError, ObjectNewError, Placing, Priority,
 };
 
 /// Why a call does nothing. The first that is due is returned.
@@ -141,6 +141,16 @@ impl Refusal {
         }
     }
 
+    /// Why nothing is inserted of a value that is copied where it stands alone.
+    pub(crate) fn copying(why: CopyError) -> Refusal
+        ensures { result ≡ copying_of why }
+    {
+        match why {
+            CopyError::Refused(why) => Refusal::inserting(why),
+            CopyError::OutOfMemory => Refusal::OutOfMemory,
+        }
+    }
+
     /// Why no object is inserted.
     pub(crate) fn inserting_object(why: ObjectError) -> Refusal
         ensures { result ≡ inserting_object_of why }
@@ -163,7 +173,6 @@ impl Refusal {
         match why {
             Unfit::NoCharge => Refusal::NoCharge,
             Unfit::TooLong => Refusal::TooLong,
-            Unfit::OutOfMemory => Refusal::OutOfMemory,
         }
     }
 }

@@ -1,4 +1,5 @@
 pub mod KnownAfterInsertion
+pub mod LetGo
 pub mod AnswersTold
 pub mod StandaloneEntry
 pub mod HandleOnInserted

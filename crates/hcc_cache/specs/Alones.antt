@@ -29,18 +29,18 @@ module _ {T : Type 0} where
     pub each : (index : ℕ) (a : Alone) → get new.alone index ≡ Some a
         → StoodAt index a.value old
 
-  -- It has one more, of this value.
-  pub record MoreAlone (value : Value) (old new : Client T) : Type 0 where
+  -- It has one more, of such a value.
+  pub record MoreAlone (Is : Value → Type 0) (old new : Client T) : Type 0 where
     pub most : new.most ≡ old.most
     pub count : slab_len new.alone ≡ slab_len old.alone + 1
     pub each : (index : ℕ) (a : Alone) → get new.alone index ≡ Some a
-        → StoodAt index a.value old ⊎ (a.value ≡ value)
+        → StoodAt index a.value old ⊎ Is a.value
 
-  -- what an insertion of this value leaves, by its answer
-  abbrev pub LeavesAlone : Value → Inserted → (old new : Client T) → Type 0
-  LeavesAlone value Placed old new = AreAlone old new
-  LeavesAlone value Dropped old new = AreAlone old new
-  LeavesAlone value Standalone old new = MoreAlone value old new
+  -- what an insertion leaves, by its answer, where such a value comes to stand alone
+  abbrev pub LeavesAlone : (Value → Type 0) → Inserted → (old new : Client T) → Type 0
+  LeavesAlone Is Placed old new = AreAlone old new
+  LeavesAlone Is Dropped old new = AreAlone old new
+  LeavesAlone Is Standalone old new = MoreAlone Is old new
 
   -- There is one handle less on the standalone entry of an index; it goes with the last.
   pub record LessAlone (index : ℕ) (gone : Bool) (old new : Client T) : Type 0 where

@@ -15,6 +15,7 @@ use Rattle.hcc_table.specs.Standing.{InsertsShown}
 use Rattle.hcc_charge.specs.declared.reserving.Refused.{Refused}
 use Rattle.hcc_charge.specs.declared.reserving.Refused.TheVariants as refused
 use Rattle.hcc_charge.specs.declared.reserving.Reservation.{Reservation}
+use Rattle.hcc_charge.specs.Settled.{fallen}
 use Rattle.hcc_charge.specs.declared.reserving.Reservation.TheVariants.{Reserved, NoPlace}
 use Rattle.hcc_shard.specs.declared.inserting.Inserted.TheVariants as stored
 use Rattle.hcc_shard.specs.declared.inserting.Inserted.{Inserted as Stored}
@@ -24,8 +25,12 @@ use Rattle.hcc_shard.specs.Inserted.{InsertedBy, PinnedBy}
 use Rattle.hcc_shard.specs.declared.seat.ShardSeat.{ShardSeat}
 use Rattle.hcc_shard.specs.declared.shard.Shard.{Shard}
 use Rattle.hcc_shard.specs.Reserving.{InsertedAs, PinnedAs, TriesWhere, left_out}
+use Rattle.hcc_shard.specs.Counted.{SameCounts}
+use Rattle.hcc_shard.specs.Stays.{StaysAt}
 use Rattle.hcc_cache.specs.declared.cache.Cache.{Cache}
 use Rattle.hcc_cache.specs.declared.client.Client.{Client}
+use Rattle.hcc_cache.specs.declared.errors.CopyError.{CopyError}
+use Rattle.hcc_cache.specs.declared.errors.CopyError.TheVariants as copies
 use Rattle.hcc_cache.specs.declared.errors.InsertError.{InsertError}
 use Rattle.hcc_cache.specs.declared.errors.InsertError.TheVariants.{HandlesFull, Spent, TooLarge, CapacityFull, OccupancyFull}
 use Rattle.hcc_cache.specs.declared.handle.Handle.{Handle}
@@ -45,7 +50,18 @@ error_of refused.TooLarge = TooLarge
 error_of refused.CapacityFull = CapacityFull
 error_of refused.OccupancyFull = OccupancyFull
 
--- and what it answers
+-- it isn't one of those that come before anything was asked of a shard
+abbrev pub IsLate : CopyError → Type 0
+IsLate (copies.Refused why) =
+    (¬ (why ≡ HandlesFull)) × (¬ (why ≡ Spent)) × (¬ (why ≡ TooLarge))
+IsLate copies.OutOfMemory = Unit {0}
+
+-- memory for a copy was refused
+abbrev pub LacksMemory : {X V : Type 0} → Result X (CopyError × V) → Type 0
+LacksMemory (Ok made) = ⊥
+LacksMemory (Err e) = e.0 ≡ copies.OutOfMemory
+
+-- what a shard answers, as the caller is told it
 abbrev pub answer_of : Result Stored Refused → Result Inserted InsertError
 answer_of (Ok stored.Placed) = Ok Placed
 answer_of (Ok stored.Dropped) = Ok Dropped
@@ -150,12 +166,31 @@ module _ {T : Type 0} (cache : Cache T) (key : Key) (charge : ℕ) (priority : P
     RefusesWithListed had has CapacityFull old new = Fails had has refused.CapacityFull old new
     RefusesWithListed had has OccupancyFull old new = Fails had has refused.OccupancyFull old new
 
+    -- It came to stand alone, memory for a copy of its value was refused, and it was let go. A
+    -- serial was used.
+    pub record LetsGo (had has : Bool) (old new : Client T) : Type 0 where
+      pub v : View (Seeded T)
+      pub w : View (Seeded T)
+      pub works : Works (shard_in cache key) old new v (fallen old.used w)
+      pub told : PinnedBy had has cache.geometry.slots cache.capacity cache.strict
+          (pinned_draft old) value (Ok pinned.Standalone) v w
+      pub keeps : KeepsHandles cache old new
+
+    -- what one that copies its value where it stands alone leaves, where it is refused
+    abbrev pub RefusesCopyListed : (had has : Bool) → CopyError → (old new : Client T) → Type 0
+    RefusesCopyListed had has (copies.Refused why) old new =
+        RefusesWithListed had has why old new
+    RefusesCopyListed had has copies.OutOfMemory old new = LetsGo had has old new
+
     -- the same where nothing is put on a list
     abbrev pub InsertsWith : Handle → Inserted → (old new : Client T) → Type 0
     InsertsWith handle answer old new = InsertsWithListed true true handle answer old new
 
     abbrev pub RefusesWith : InsertError → (old new : Client T) → Type 0
     RefusesWith why old new = RefusesWithListed true true why old new
+
+    abbrev pub RefusesCopy : CopyError → (old new : Client T) → Type 0
+    RefusesCopy why old new = RefusesCopyListed true true why old new
 
 -- What an insertion did at the shard of its key, told of the client's seat there: what it evicted,
 -- for what it asked, how the counts rose, and where the entry is or why it is nowhere.
@@ -224,6 +259,24 @@ module _ {T : Type 0} (cache : Cache T) (fits : T → Key → List ℕ → Type 
 
   abbrev pub RefusesPinnedAt : InsertError → (old new : Client T) → Type 0
   RefusesPinnedAt why old new = RefusesPinnedAtListed true true why old new
+
+  -- one that came to stand alone, and was let go
+  abbrev pub LetsGoAtListed : (had has : Bool) → (old new : Client T) → Type 0
+  LetsGoAtListed had has old new =
+      AtShard cache (λ shard was is. (mid : ShardSeat (Seeded T))
+      × PinnedAs (fits_seeded fits) shard
+      (draft_of cache key charge priority (λ c. Some c.used) old) had has (Ok pinned.Standalone)
+      was mid
+      × StaysAt shard mid is × SameCounts mid is) (shard_in cache key) old new
+
+  -- and one that is refused, which copies its value where it stands alone
+  abbrev pub RefusesCopyAtListed : (had has : Bool) → CopyError → (old new : Client T) → Type 0
+  RefusesCopyAtListed had has (copies.Refused why) old new =
+      RefusesPinnedAtListed had has why old new
+  RefusesCopyAtListed had has copies.OutOfMemory old new = LetsGoAtListed had has old new
+
+  abbrev pub RefusesCopyAt : CopyError → (old new : Client T) → Type 0
+  RefusesCopyAt why old new = RefusesCopyAtListed true true why old new
 
 -- What an insertion left of what is shown, in the worlds that its client knows of the key's shard:
 -- when its reservation had ended, with its eviction, and when the entry was placed or left out.

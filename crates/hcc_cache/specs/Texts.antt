@@ -3,6 +3,7 @@ use Rattle.std.specs.Prelude.{ℕ, List, codes}
 use Rattle.hcc_cache.specs.declared.errors.NewError.{NewError}
 use Rattle.hcc_cache.specs.declared.errors.LookupError.{LookupError}
 use Rattle.hcc_cache.specs.declared.errors.InsertError.{InsertError}
+use Rattle.hcc_cache.specs.declared.errors.CopyError.{CopyError}
 use Rattle.hcc_cache.specs.declared.errors.ObjectError.{ObjectError}
 use Rattle.hcc_cache.specs.declared.errors.ObjectNewError.{ObjectNewError}
 use Rattle.hcc_cache.specs.declared.errors.CloseError.{CloseError}
@@ -10,6 +11,7 @@ use Rattle.hcc_cache.specs.declared.errors.ObjectCloseError.{ObjectCloseError}
 use Rattle.hcc_cache.specs.declared.errors.NewError.TheVariants as news
 use Rattle.hcc_cache.specs.declared.errors.LookupError.TheVariants as lookups
 use Rattle.hcc_cache.specs.declared.errors.InsertError.TheVariants as inserts
+use Rattle.hcc_cache.specs.declared.errors.CopyError.TheVariants as copies
 use Rattle.hcc_cache.specs.declared.errors.ObjectError.TheVariants as objects
 use Rattle.hcc_cache.specs.declared.errors.ObjectNewError.TheVariants as object_news
 use Rattle.hcc_cache.specs.declared.errors.CloseError.TheVariants as closes
@@ -39,6 +41,10 @@ insert_text inserts.Spent = codes "the client has used all its serials"
 insert_text inserts.TooLarge = codes "the charge is above a shard's capacity"
 insert_text inserts.CapacityFull = codes "evictions freed too little of the charge"
 insert_text inserts.OccupancyFull = codes "evictions freed no slot"
+
+abbrev pub copy_text : CopyError → List ℕ
+copy_text (copies.Refused why) = insert_text why
+copy_text copies.OutOfMemory = codes "an allocation failed"
 
 abbrev pub object_text : ObjectError → List ℕ
 object_text objects.HandlesFull = codes "the client holds as many handles as it may"

@@ -1,6 +1,6 @@
 //! Why a call is refused. In each list the first that is due is returned.
 ghost use Rattle.std.specs.Prelude.{◌≡◌};
-ghost use Rattle.hcc_cache.specs.Texts.{new_text, lookup_text, insert_text, object_text, object_new_text, close_text, object_close_text};
+ghost use Rattle.hcc_cache.specs.Texts.{new_text, lookup_text, insert_text, copy_text, object_text, object_new_text, close_text, object_close_text};
 
 use thiserror::Error;
 
@@ -130,6 +130,30 @@ impl InsertError {
             InsertError::TooLarge => "the charge is above a shard's capacity",
             InsertError::CapacityFull => "evictions freed too little of the charge",
             InsertError::OccupancyFull => "evictions freed no slot",
+        }
+    }
+}
+
+/// Why nothing is inserted of a value that is copied where it stands alone.
+#[derive(Clone, Copy, Debug, PartialEq, Eq, Error)]
+pub enum CopyError {
+    /// For a reason that other insertions have, too.
+    #[error("{0}")]
+    Refused(InsertError),
+    /// Memory for the copy was refused, after all else was done: evictions stay made, a serial is
+    /// used, and charge and place were given back.
+    #[error("OutOfMemory")]
+    OutOfMemory,
+}
+
+impl CopyError {
+    /// The refusal as a sentence.
+    pub fn text(self) -> &'static str
+        ensures { result.now ≡ copy_text self }
+    {
+        match self {
+            CopyError::Refused(why) => InsertError::text(why),
+            CopyError::OutOfMemory => "an allocation failed",
         }
     }
 }

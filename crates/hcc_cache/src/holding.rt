@@ -13,6 +13,7 @@ use crate::errors::LookupError;
 use crate::handle::Handle;
 use hcc_rule::Key;
 use hcc_table::Pin;
+use std::alloc::Global;
 
 /// What a client keeps of a handle.
 #[derive(Clone, Copy, Debug, PartialEq, Eq)]
@@ -76,21 +77,31 @@ pub(crate) enum Value {
 pub(crate) trait Standing: Drop {
     ghost use Rattle.hcc_cache.specs.declared.holding.Value.{Value};
     ghost use Rattle.hcc_cache.specs.Alones.{bytes_of, IsObject};
+    ghost use Rattle.std.specs.Prelude.{List, ℕ, IfOk, IfErr};
 
-    // As an entry has it.
-    ghost value: { Self → Value };
+    // Its bytes, as an entry has them.
+    ghost bytes: { Self → List ℕ };
+    // What may stand alone in its place.
+    ghost stands: { Self → Value → Type 0 };
+    // Memory for that may be refused.
+    ghost lacks: { Type 0 };
 
     fn as_bytes(&self) -> &[u8]
-        ensures { result.now ≡ bytes_of (value self.now) };
+        ensures { result.now ≡ bytes self.now };
 
-    fn into_value(self) -> Value
-        ensures { result ≡ value self };
+    // It is handed back where memory is refused.
+    fn into_value(self) -> Result<Value, Self>
+        ensures made { IfOk result (λ value. stands self value
+            × (bytes_of value ≡ bytes self)) }
+        ensures refused { IfErr result (λ back. lacks × (back ≡ self)) };
 }
 
 impl Standing for Vec<u8> {
     ghost use Rattle.hcc_cache.specs.declared.holding.Value.TheVariants.{Bytes};
 
-    ghost value = { λ value. Bytes value };
+    ghost bytes = { λ value. value.items };
+    ghost stands = { λ value it. it ≡ Bytes value };
+    ghost lacks = { ⊥ };
 
     #[inline(always)]
     fn as_bytes(&self) -> &[u8] {
@@ -98,15 +109,17 @@ impl Standing for Vec<u8> {
     }
 
     #[inline(always)]
-    fn into_value(self) -> Value {
-        Value::Bytes(self)
+    fn into_value(self) -> Result<Value, Vec<u8>> {
+        Ok(Value::Bytes(self))
     }
 }
 
 impl Standing for [u8; 8] {
     ghost use Rattle.hcc_cache.specs.declared.holding.Value.TheVariants.{Word};
 
-    ghost value = { λ word. Word word };
+    ghost bytes = { λ word. word };
+    ghost stands = { λ word it. it ≡ Word word };
+    ghost lacks = { ⊥ };
 
     #[inline(always)]
     fn as_bytes(&self) -> &[u8] {
@@ -114,8 +127,35 @@ impl Standing for [u8; 8] {
     }
 
     #[inline(always)]
-    fn into_value(self) -> Value {
-        Value::Word(self)
+    fn into_value(self) -> Result<Value, [u8; 8]> {
+        Ok(Value::Word(self))
+    }
+}
+
+/// Bytes of the caller's, of which a copy stands alone.
+#[derive(Drop)]
+pub(crate) struct Lent<'a> {
+    pub(crate) bytes: &'a [u8],
+    pub(crate) alloc: Global,
+}
+
+impl Standing for Lent<'_> {
+    ghost use Rattle.hcc_cache.specs.declared.holding.Value.TheVariants.{Bytes};
+
+    ghost bytes = { λ lent. lent.bytes.now };
+    ghost stands = { λ lent it. (copy : _) × (it ≡ Bytes copy) };
+    ghost lacks = { Unit {0} };
+
+    #[inline(always)]
+    fn as_bytes(&self) -> &[u8] {
+        self.bytes
+    }
+
+    fn into_value(self) -> Result<Value, Self> {
+        match self.bytes.to_vec(self.alloc) {
+            Ok(copy) => Ok(Value::Bytes(copy)),
+            Err(_) => Err(self),
+        }
     }
 }
 

@@ -4,18 +4,18 @@ ghost use Rattle.slab.specs.Slab.{get, slab_len, HasRoomFor, Updates};
 ghost use Rattle.hcc_cache.specs.declared.holding.Kept.TheVariants.{Standing};
 ghost use Rattle.hcc_charge.specs.Evicted.{turn_room};
 ghost use Rattle.hcc_shard.specs.Inserted.{inserting, inserting_between, inserting_listed, listed_between};
-ghost use Rattle.hcc_cache.specs.Alones.{AreAlone, LeavesAlone, bytes_of};
+ghost use Rattle.hcc_cache.specs.Alones.{AreAlone, LeavesAlone};
 ghost use Rattle.hcc_cache.specs.Calls.{HandsAt, OnlyAt, TakesAtMost, TakesFor, capacities_of, shard_in};
 ghost use Rattle.hcc_cache.specs.Clients.{held_by};
-ghost use Rattle.hcc_cache.specs.Inserts.{Inserts, InsertsAt, InsertsAtListed, InsertsListed, InsertsPinnedAt, InsertsPinnedAtListed, InsertsWith, InsertsWithListed, RefusesPinnedAt, RefusesPinnedAtListed, RefusesWith, RefusesWithListed, answer_of};
+ghost use Rattle.hcc_cache.specs.Inserts.{Inserts, InsertsAt, InsertsAtListed, InsertsListed, InsertsPinnedAt, InsertsPinnedAtListed, InsertsWith, InsertsWithListed, IsLate, LacksMemory, RefusesCopy, RefusesCopyAt, RefusesCopyAtListed, RefusesCopyListed, RefusesPinnedAt, RefusesWith, answer_of};
 ghost use Rattle.hcc_cache.specs.Known.{Knows};
 ghost use Rattle.hcc_cache.specs.Moments.{KnowsShown};
 
 use crate::cache::Cache;
 use crate::client::Client;
-use crate::errors::{InsertError, LookupError};
+use crate::errors::{CopyError, InsertError, LookupError};
 use crate::handle::Handle;
-use crate::holding::{Alone, Kept, Standing, Value};
+use crate::holding::{Alone, Kept, Lent, Standing, Value};
 use crate::lookups::pinned;
 use crate::priority::Priority;
 use crate::seeded::Seeded;
@@ -23,6 +23,7 @@ use hcc_charge::Refused;
 use hcc_rule::{Draft, Key, Tag};
 use hcc_shard::Pinned;
 use hcc_table::{FreedList, NoList};
+use std::alloc::Global;
 
 /// What came of an insertion.
 #[derive(Clone, Copy, Debug, PartialEq, Eq)]
@@ -263,7 +264,87 @@ impl<T: Tag> Cache<T> {
         if self.is_too_large(charge) {
             return Err((InsertError::TooLarge, value));
         }
-        self.stored_pinned(client, key, value, charge, priority, &mut NoList)
+        match self.stored_pinned(client, key, value, charge, priority, &mut NoList) {
+            Ok(made) => Ok(made),
+            Err((CopyError::Refused(why), value)) => Err((why, value)),
+            Err((CopyError::OutOfMemory, _)) => unreachable!(),
+        }
+    }
+
+    /// The same of a value that stays the caller's. It is copied only where it comes to stand
+    /// alone, into memory that is asked for then: what is placed takes none.
+    ///
+    /// It is refused as `insert_pinned` is. Last of all it is refused where there is no such memory:
+    /// evictions stay made, a serial is used, and the entry, which stood alone, was let go, so that
+    /// charge and place are given back.
+    ///
+    /// It costs what `insert_pinned` does; where memory was refused two subtractions more.
+    pub fn insert_pinned_copy(
+        &self,
+        alloc: Global,
+        client: &mut Client<T>,
+        key: Key,
+        value: &[u8],
+        charge: u32,
+        priority: Priority,
+    ) -> Result<(Handle, Inserted), CopyError>
+        requires known { Knows self.now client.old }
+        requires fits { T.fits self.now.tag key value.now }
+        requires short { length value.now ≤ 8 * self.now.geometry.room }
+        requires paid { 0 < charge }
+        ensures known { Knows self.now client.new }
+        ensures full { IsErrOf result (CopyError.Refused InsertError.HandlesFull)
+            ↔ (held_by client.old ≡ client.old.most) }
+        ensures spent { IsErrOf result (CopyError.Refused InsertError.Spent)
+            ↔ ((held_by client.old < client.old.most) × (client.old.left ≡ 0)) }
+        ensures large { IsErrOf result (CopyError.Refused InsertError.TooLarge)
+            ↔ ((held_by client.old < client.old.most) × (0 < client.old.left)
+            × (self.now.strict ≡ true) × (self.now.capacity < charge)) }
+        ensures inserted { MatchResult result
+            (λ made. InsertsWith self.now key charge priority value.now made.0 made.1
+            client.old client.new)
+            (λ why. RefusesCopy self.now key charge priority value.now why
+            client.old client.new) }
+        ensures evicts { MatchResult result
+            (λ made. InsertsPinnedAt self.now T.fits key charge priority made.1
+            client.old client.new)
+            (λ why. RefusesCopyAt self.now T.fits key charge priority why
+            client.old client.new) }
+        ensures shown { self.now.geometry.clients ≡ 1
+            → IfOk result (λ made. made.1 ≡ Inserted.Placed
+            → KnowsShown self.now key client.new) }
+        ensures others { OnlyAt (shard_in self.now key) client.old client.new }
+        ensures frees { held_by client.old < client.old.most → 0 < client.old.left
+            → (self.now.strict ≡ true → charge ≤ self.now.capacity)
+            → ¬ IsErrOf result CopyError.OutOfMemory
+            → TakesFor self.now 7
+            (inserting_between self.now.geometry.slots self.now.geometry.room)
+            (shard_in self.now key) client.old client.new }
+        ensures held { ¬ IsErrOf result CopyError.OutOfMemory → TakesAtMost
+            (inserting self.now.geometry.slots self.now.geometry.room)
+            client.old client.new }
+        ensures steps { TakesAtMost
+            (inserting self.now.geometry.slots self.now.geometry.room + 2)
+            client.old client.new }
+    {
+        match client.may_hold() {
+            Ok(()) => {}
+            Err(LookupError::HandlesFull) => {
+                return Err(CopyError::Refused(InsertError::HandlesFull));
+            }
+            Err(LookupError::Spent) => return Err(CopyError::Refused(InsertError::Spent)),
+        }
+        if self.is_too_large(charge) {
+            return Err(CopyError::Refused(InsertError::TooLarge));
+        }
+        let lent = Lent {
+            bytes: value,
+            alloc,
+        };
+        match self.stored_pinned(client, key, lent, charge, priority, &mut NoList) {
+            Ok(made) => Ok(made),
+            Err((why, _)) => Err(why),
+        }
     }
 
     /// The same, where a handle may be given and the charge isn't too large. It puts on a list what
@@ -276,49 +357,52 @@ impl<T: Tag> Cache<T> {
         charge: u32,
         priority: Priority,
         list: &mut L,
-    ) -> Result<(Handle, Inserted), (InsertError, V)>
+    ) -> Result<(Handle, Inserted), (CopyError, V)>
         requires known { Knows self.now client.old }
-        requires fits { T.fits self.now.tag key (bytes_of (V.value value)) }
-        requires short { length (bytes_of (V.value value)) ≤ 8 * self.now.geometry.room }
+        requires fits { T.fits self.now.tag key (V.bytes value) }
+        requires short { length (V.bytes value) ≤ 8 * self.now.geometry.room }
         requires paid { 0 < charge }
         requires free { (held_by client.old < client.old.most) × (0 < client.old.left) }
         requires small { self.now.strict ≡ true → charge ≤ self.now.capacity }
         ensures known { Knows self.now client.new }
         ensures back { IfErr result (λ e. e.1 ≡ value) }
-        ensures late { IfErr result (λ e. (¬ (e.0 ≡ InsertError.HandlesFull))
-            × (¬ (e.0 ≡ InsertError.Spent)) × (¬ (e.0 ≡ InsertError.TooLarge))) }
+        ensures late { IfErr result (λ e. IsLate e.0) }
+        ensures memory { LacksMemory result → V.lacks }
         ensures list { HandsAt self.now (L.shelf list.old) (L.shelf list.new)
             (shard_in self.now key) client.old client.new }
         ensures inserted { MatchResult result
-            (λ made. InsertsWithListed self.now key charge priority (bytes_of (V.value value))
+            (λ made. InsertsWithListed self.now key charge priority (V.bytes value)
             (turn_room (L.shelf list.old)) (turn_room (L.shelf list.new)) made.0 made.1
             client.old client.new)
-            (λ e. RefusesWithListed self.now key charge priority (bytes_of (V.value value))
+            (λ e. RefusesCopyListed self.now key charge priority (V.bytes value)
             (turn_room (L.shelf list.old)) (turn_room (L.shelf list.new)) e.0
             client.old client.new) }
         ensures evicts { MatchResult result
             (λ made. InsertsPinnedAtListed self.now T.fits key charge priority
             (turn_room (L.shelf list.old)) (turn_room (L.shelf list.new)) made.1
             client.old client.new)
-            (λ e. RefusesPinnedAtListed self.now T.fits key charge priority
+            (λ e. RefusesCopyAtListed self.now T.fits key charge priority
             (turn_room (L.shelf list.old)) (turn_room (L.shelf list.new)) e.0
             client.old client.new) }
         ensures alone { MatchResult result
-            (λ made. LeavesAlone (V.value value) made.1 client.old client.new)
+            (λ made. LeavesAlone (V.stands value) made.1 client.old client.new)
             (λ e. AreAlone client.old client.new) }
         ensures shown { self.now.geometry.clients ≡ 1
             → IfOk result (λ made. made.1 ≡ Inserted.Placed
             → KnowsShown self.now key client.new) }
         ensures others { OnlyAt (shard_in self.now key) client.old client.new }
-        ensures frees { TakesFor self.now 7
+        ensures frees { ¬ LacksMemory result → TakesFor self.now 7
             (listed_between self.now.geometry.slots self.now.geometry.room L.loads)
             (shard_in self.now key) client.old client.new }
-        ensures steps { TakesAtMost
+        ensures held { ¬ LacksMemory result → TakesAtMost
             (inserting_listed self.now.geometry.slots self.now.geometry.room L.loads)
+            client.old client.new }
+        ensures steps { TakesAtMost
+            (inserting_listed self.now.geometry.slots self.now.geometry.room L.loads + 2)
             client.old client.new }
     {
         let seeded = self.key_to(client, key);
-        let shard = self.shard_number(seeded);
+        let number = self.shard_number(seeded);
         let draft = Draft {
             key: seeded.in_shard,
             charge,
@@ -326,20 +410,28 @@ impl<T: Tag> Cache<T> {
             countdown: priority.countdown(),
             name: Some(client.used),
         };
-        let seat = &mut client.seats[shard];
+        let seat = &mut client.seats[number];
+        let shard = &self.shards[number];
         let bytes = value.as_bytes();
-        match self.shards[shard].insert_pinned(seat, draft, bytes, list) {
+        match shard.insert_pinned(seat, draft, bytes, list) {
             Ok(Pinned::Placed { pin }) => {
-                let handle = client.keep(key, shard, pinned(pin));
+                let handle = client.keep(key, number, pinned(pin));
                 Ok((handle, Inserted::Placed))
             }
-            Ok(Pinned::Standalone) => {
-                let handle = client.keep_alone(key, shard, charge, value.into_value());
-                Ok((handle, Inserted::Standalone))
-            }
+            Ok(Pinned::Standalone) => match value.into_value() {
+                Ok(value) => {
+                    let handle = client.keep_alone(key, number, charge, value);
+                    Ok((handle, Inserted::Standalone))
+                }
+                Err(value) => {
+                    shard.release_standalone(seat, draft.serial, charge);
+                    client.next_serial();
+                    Err((CopyError::OutOfMemory, value))
+                }
+            },
             Err(why) => {
                 client.next_serial();
-                Err((InsertError::from(why), value))
+                Err((CopyError::Refused(InsertError::from(why)), value))
             }
         }
     }

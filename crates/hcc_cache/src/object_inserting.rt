@@ -7,7 +7,7 @@ ghost use Rattle.hcc_cache.specs.Clients.{held_by};
 ghost use Rattle.hcc_cache.specs.ObjectInserts.{FailsObject, InsertsObject, IsUnfit, MayInsert, MayStand, PinsObject, answer_as, is_full, placed_as, refused_as};
 ghost use Rattle.hcc_cache.specs.Objects.{KnowsObjects, alone_of, places_left};
 
-use crate::errors::{InsertError, LookupError, ObjectError};
+use crate::errors::{CopyError, InsertError, LookupError, ObjectError};
 use crate::handle::Handle;
 use crate::inserting::Inserted;
 use crate::object_cache::{ObjectCache, ObjectClient};
@@ -212,7 +212,10 @@ impl ObjectCache {
         let list_full = !gone.has_room(SLOTS_PER_TURN as u32);
         match told {
             Ok((handle, made)) => Ok((handle, placed(made, list_full))),
-            Err((why, _)) => Err(refused(why, list_full)),
+            Err((why, _)) => match why {
+                CopyError::Refused(why) => Err(refused(why, list_full)),
+                CopyError::OutOfMemory => unreachable!(),
+            },
         }
     }
 

@@ -4,6 +4,7 @@
 
 mod calls;
 mod configs;
+mod copies;
 mod errors;
 mod example;
 mod full;

@@ -31,6 +31,18 @@ module _ {X : Type 0} (p : X → Bool) where
       by true later h = cc
       by false later h = later h
 
+  -- and dropped
+  pub dropped_last : (xs : List X) (x : X) → find p xs ≡ None → p x ≡ true
+      → dropped p (xs ++ x ∷ []) ≡ xs
+  dropped_last [] x h passes = rw passes refl
+  dropped_last (z ∷ zs) x h passes = by (p z) (λ e. dropped_last zs x e passes) h
+    where
+      by : (b : Bool) → (find p zs ≡ None → dropped p (zs ++ x ∷ []) ≡ zs)
+          → cond b (Some z) (find p zs) ≡ None
+          → cond b (zs ++ x ∷ []) (z ∷ dropped p (zs ++ x ∷ [])) ≡ z ∷ zs
+      by true later h = cc
+      by false later h = ap (λ l. z ∷ l) (later h)
+
   -- one member is gone
   pub dropped_one : (xs : List X) (x : X) → find p xs ≡ Some x
       → length (dropped p xs) + 1 ≡ length xs

@@ -1,9 +1,10 @@
 -- Standalone entries after a call.
-use Rattle.std.proofs.Common.{◌≡◌, inl, inr, ℕ, ◌+◌, Some, None, sym, refl, ap, ◌∙◌, arith}
+use Rattle.std.proofs.Common.{◌≡◌, inl, inr, ℕ, ◌+◌, Some, None, subst, sym, refl, ap, ◌∙◌, arith}
 use Rattle.std.proofs.lemmas.Bool.{cases_eq}
 use Rattle.slab.specs.Slab.{get, slab_len, Updates}
 use Rattle.hcc_cache.specs.declared.client.Client.{Client}
 use Rattle.hcc_cache.specs.declared.holding.Alone.{Alone}
+use Rattle.hcc_cache.specs.declared.holding.Value.{Value}
 use Rattle.hcc_cache.specs.Alones.{AreAlone, MoreAlone}
 use Rattle.hcc_cache.proofs.Basics.SlabSums.{len_updated, one_of}
 use Rattle.hcc_cache.proofs.Handles.SameHolds.{freed_is, stood_there, written_is}
@@ -48,8 +49,9 @@ module _ {T : Type 0} (old new : Client T) (most : new.most ≡ old.most) where
 
   -- one came
   pub alone_more : (at : ℕ) (a : Alone) → get old.alone at ≡ None
-      → Updates old.alone new.alone at (Some a) → MoreAlone a.value old new
-  alone_more at a free updates =
+      → Updates old.alone new.alone at (Some a) → (Is : Value → Type 0) → Is a.value
+      → MoreAlone Is old new
+  alone_more at a free updates Is made =
       let count = len_updated old.alone new.alone at (Some a) updates in
       let had : one_of (get old.alone at) ≡ 0 = ap one_of free in
       record {
@@ -57,8 +59,8 @@ module _ {T : Type 0} (old new : Client T) (most : new.most ≡ old.most) where
         count = omega arith;
         each = λ p x is. elim (cases_eq p at) [
           | inl here ↦
-              inr (ap (λ (y : Alone). y.value)
-              (written_is old.alone new.alone at a x p updates here is))
+              inr (subst (λ (y : Alone). Is y.value)
+              (sym (written_is old.alone new.alone at a x p updates here is)) made)
           | inr other ↦
               inl (x, stood_there old.alone new.alone at (Some a) x p updates other is, refl)
         ];

@@ -94,9 +94,10 @@ module _ (cache : ObjectCache) (old new : ObjectClient) (knows : KnowsObjects ca
           objects = λ p a there. stood p a.value (alone.each p a there);
         }
 
-    pub grows_by_one : (value : Value) → IsObject value → MoreAlone value old.client new.client
-        → alone_of old < places_left old → KnowsObjects cache new
-    grows_by_one value object alone free =
+    pub grows_by_one : (Is : Value → Type 0) → ((value : Value) → Is value → IsObject value)
+        → MoreAlone Is old.client new.client → alone_of old < places_left old
+        → KnowsObjects cache new
+    grows_by_one Is object alone free =
         let room = room_for 1 alone.most alone.count (omega (arith, free)) in
         record {
           known = known;
@@ -105,17 +106,18 @@ module _ (cache : ObjectCache) (old new : ObjectClient) (knows : KnowsObjects ca
           room = room.1;
           objects = λ p a there. elim (alone.each p a there) [
             | inl was ↦ stood p a.value was
-            | inr made ↦ (object.0, made ∙ object.1)
+            | inr made ↦ object a.value made
           ];
         }
 
     -- by the answer of an insertion
-    pub grows_by : (value : Value) (made : Inserted) → IsObject value
-        → LeavesAlone value made old.client new.client → alone_of old < places_left old
+    pub grows_by : (Is : Value → Type 0) (made : Inserted)
+        → ((value : Value) → Is value → IsObject value)
+        → LeavesAlone Is made old.client new.client → alone_of old < places_left old
         → KnowsObjects cache new
-    grows_by value Placed object alone free = grows_list alone
-    grows_by value Dropped object alone free = grows_list alone
-    grows_by value Standalone object alone free = grows_by_one value object alone free
+    grows_by Is Placed object alone free = grows_list alone
+    grows_by Is Dropped object alone free = grows_list alone
+    grows_by Is Standalone object alone free = grows_by_one Is object alone free
 
   -- A standalone entry went onto it.
   pub moves_one : (at : ℕ) (a : Alone) → get old.client.alone at ≡ Some a

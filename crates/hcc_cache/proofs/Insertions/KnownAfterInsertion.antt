@@ -260,6 +260,15 @@ module _ {T : Type 0} where
         ap (λ (g : Geometry). g.slots) alike.0 in
         rw (← slots, ← alike.1, ← alike.2, ← same) told
 
+    -- So does what one did that keeps a reference.
+    pub pins_as : (fits : T → Key → List ℕ → Type 0) (draft asked : Draft) → draft ≡ asked
+        → (had has : Bool) (told answer : Result Pinned Refused) → told ≡ answer
+        → PinnedAs (fits_seeded fits) shard draft had has told was is
+        → PinnedAs (fits_seeded fits) shard asked had has answer was is
+    pins_as fits draft asked same had has told answer is_told did =
+        subst (λ o. PinnedAs (fits_seeded fits) shard asked had has o was is) is_told
+        (subst (λ d. PinnedAs (fits_seeded fits) shard d had has told was is) same did)
+
     module _ (change : ChangesAt old new i is) where
       module _ (fits : T → Key → List ℕ → Type 0) (key : Key) (charge : ℕ) (priority : Priority)
           (here : i ≡ shard_in cache key) where
@@ -286,12 +295,7 @@ module _ {T : Type 0} where
             did_at cache old new i shard was is at change
             (λ s a b. PinnedAs (fits_seeded fits) s
             (draft_of cache key charge priority (λ c. Some c.used) old) had has answer a b)
-            (subst (λ o. PinnedAs (fits_seeded fits) shard asked had has o was is) is_told
-            (subst (λ d. PinnedAs (fits_seeded fits) shard d had has told was is) same did))
-            (shard_in cache key) here
-          where
-            asked : Draft
-            asked = draft_of cache key charge priority (λ c. Some c.used) old
+            (pins_as fits draft _ same had has told answer is_told did) (shard_in cache key) here
 
       -- the steps of an insertion
       pub inserts_at : (loads : ℕ) → steps_of is
@@ -301,6 +305,18 @@ module _ {T : Type 0} where
           let alike = at.knows.alike.plans i shard at.shard_is in
           takes_at cache old new i shard was is at change
           (inserting_listed cache.geometry.slots cache.geometry.room loads) (rw (← alike.0) few)
+
+      -- and of one that came to stand alone, and was let go
+      pub undoes_at : (loads : ℕ) (mid : ShardSeat (Seeded T)) → steps_of mid
+          ≤ steps_of was + inserting_listed (geometry_of shard).slots (geometry_of shard).room loads
+          → steps_of is ≤ steps_of mid + 2
+          → TakesAtMost (inserting_listed cache.geometry.slots cache.geometry.room loads + 2) old
+          new
+      undoes_at loads mid few two =
+          let alike = at.knows.alike.plans i shard at.shard_is in
+          takes_at cache old new i shard was is at change
+          (inserting_listed cache.geometry.slots cache.geometry.room loads + 2)
+          (rw (← alike.0) (omega arith))
 
       -- and by what it turned and freed
       pub frees_at : (loads number : ℕ) → i ≡ number
@@ -352,7 +368,7 @@ module _ {T : Type 0} where
             (omega arith)
 
         -- its handles stand for what they stood for,
-        keeps_asked : KeepsHandles cache old new
+        pub keeps_asked : KeepsHandles cache old new
         keeps_asked = record {
           all =
               keeps_all cache old new change.number asked.handles

@@ -1,6 +1,6 @@
 //! How refusals are told.
 
-use hcc_cache::{CloseError, InsertError, LookupError, NewError};
+use hcc_cache::{CloseError, CopyError, InsertError, LookupError, NewError};
 use std::test::Fail;
 
 #[test]
@@ -39,6 +39,17 @@ fn an_entry_that_is_not_inserted(rt: HostRuntime) -> Result<(), Fail> {
         (InsertError::TooLarge, "TooLarge"),
         (InsertError::CapacityFull, "CapacityFull"),
         (InsertError::OccupancyFull, "OccupancyFull"),
+    ] {
+        assert_eq!(rt; error.to_string(rt.alloc())?.as_str(), text);
+    }
+    Ok(())
+}
+
+#[test]
+fn a_value_that_is_not_copied(rt: HostRuntime) -> Result<(), Fail> {
+    for (error, text) in [
+        (CopyError::Refused(InsertError::Spent), "Spent"),
+        (CopyError::OutOfMemory, "OutOfMemory"),
     ] {
         assert_eq!(rt; error.to_string(rt.alloc())?.as_str(), text);
     }
