@@ -347,6 +347,30 @@ ferretgold_status ferretgold_client_close_releasing(ferretgold_cache *cache,
     return give_back(cache, client, true, __func__);
 }
 
+/* ---- Reading a part by its key --------------------------------------------------------------- */
+
+ferretgold_status ferretgold_get_part(ferretgold_client *client, const ferretgold_key *key,
+                                      size_t offset, void *buffer, size_t capacity, bool useful,
+                                      ferretgold_part *part) {
+    ferretgold_handle held;
+    ferretgold_part ignored;
+    void *bytes = buffer != NULL ? buffer : &ignored;
+    bool freed = false;
+    if (client == NULL || key == NULL || (buffer == NULL && capacity != 0)) {
+        return FERRETGOLD_NULL;
+    }
+    if (!ferretgold_enter(client, __func__)) {
+        return FERRETGOLD_NO_CLIENT;
+    }
+    const uint32_t status = ferretgold_raw_lookup(&client->session, key, &held);
+    if (status == FERRETGOLD_OK) {
+        (void)ferretgold_raw_read_part(&client->session, &held, offset, bytes, capacity,
+                                       part != NULL ? part : &ignored);
+        (void)ferretgold_raw_release(&client->session, &held, useful, false, &freed);
+    }
+    return ferretgold_leave(client, ferretgold_looked(client, status));
+}
+
 /* ---- Inserting and erasing ------------------------------------------------------------------- */
 
 /* The proved library asks for pointers that aren't null, also to no bytes: the key's does then. */
