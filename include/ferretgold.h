@@ -122,8 +122,7 @@ typedef enum ferretgold_status {
 
     /* A pointer is null that may not be. */
     FERRETGOLD_NULL = 16,
-    /* The handle is none that the client holds: it was released, or another client or another
-     * cache gave it. */
+    /* The handle is none that the client holds. */
     FERRETGOLD_NO_HANDLE = 17,
     /* The charge is 0. */
     FERRETGOLD_NO_CHARGE = 18,
@@ -143,8 +142,7 @@ typedef enum ferretgold_status {
     FERRETGOLD_TOO_LARGE = 25,
     /* Strict only: evictions freed too little of the charge. They stay made; a serial is used. */
     FERRETGOLD_CAPACITY_FULL = 26,
-    /* Strict only: the shard was full, and evictions freed no slot. They stay made; a serial is
-     * used. */
+    /* The same, where the shard was full, and evictions freed no slot. */
     FERRETGOLD_OCCUPANCY_FULL = 27,
     /* Memory was refused. */
     FERRETGOLD_OUT_OF_MEMORY = 28,
@@ -213,7 +211,7 @@ typedef struct ferretgold_config {
                           fewer fields refuses it; 0 stands for 48 */
     uint64_t capacity; /* in charges, at most 2^40; each shard has an equal part, rounded up */
     uint64_t serials;  /* of each client: 1 to 2^54; an insertion uses one, and so does a handle that
-                          ferretgold_lookup, ferretgold_reref or ferretgold_pin_at gives */
+                          ferretgold_lookup, _reref or _pin_at gives, or _get_part takes */
     uint64_t seed;     /* of the keys; 0: opening draws one, so that nobody knows it.
                           FERRETGOLD_UNSEEDED only if keys are spread already, as hashes are: keys
                           of blocks, say, are found five to twenty times slower so */
@@ -254,7 +252,7 @@ typedef struct ferretgold_stats {
 /* What calls came to. Each insertion that isn't refused for its arguments or for lack of memory is one of
  * placed, there, dropped, standalone and refused, and one of by_turns. */
 typedef struct ferretgold_counts {
-    uint64_t hits;         /* ferretgold_lookup and ferretgold_get that returned OK */
+    uint64_t hits;         /* ferretgold_lookup, _get and _get_part that returned OK */
     uint64_t misses;       /* and all others: MISS, TOO_SHORT, HANDLES_FULL, SPENT */
     uint64_t placed;       /* insertions that were placed */
     uint64_t there;        /* that met an entry of their key: THERE, or STANDALONE */
@@ -497,18 +495,16 @@ ferretgold_status ferretgold_insert(ferretgold_client *client, const ferretgold_
                                     ferretgold_priority priority, ferretgold_inserted *inserted);
 
 /*
- * Inserts an entry of this key, value and charge, and gives a handle on it. PLACED: it is in the
- * table. STANDALONE: it isn't, where ferretgold_insert answers THERE or DROPPED; look-ups don't find
- * it, its charge is in the usage, and it goes with its last handle. `value` may be null if `length`
- * is 0, and `inserted` may be null. Uses one serial, also if CAPACITY_FULL or OCCUPANCY_FULL refuses
- * it.
+ * The same, and gives a handle on the entry. STANDALONE, where ferretgold_insert answers THERE or
+ * DROPPED: it isn't in the table; look-ups don't find it, its charge is in the usage, and it goes
+ * with its last handle.
  *
  * Allocates a copy of the value by malloc, if it has bytes, and frees it unless the entry is
  * standalone, which keeps it. Costs what ferretgold_insert costs, the copy, and if no place was
  * found two adds more. Bound: the same.
  *
- * Refuses BAD_PRIORITY, NO_CHARGE, TOO_LONG, OUT_OF_MEMORY, HANDLES_FULL, SPENT, TOO_LARGE; and if
- * strict, after evictions that stay made, CAPACITY_FULL, OCCUPANCY_FULL.
+ * Refuses BAD_PRIORITY, NO_CHARGE, TOO_LONG, OUT_OF_MEMORY, HANDLES_FULL, SPENT, then as
+ * ferretgold_insert.
  */
 ferretgold_status ferretgold_insert_pinned(ferretgold_client *client, const ferretgold_key *key,
                                            const void *value, size_t length, uint32_t charge,
@@ -528,22 +524,14 @@ ferretgold_status ferretgold_insert_pinned(ferretgold_client *client, const ferr
 ferretgold_status ferretgold_erase(ferretgold_client *client, const ferretgold_key *key,
                                    uint32_t *hidden);
 
-/* ---- Reading --------------------------------------------------------------------------------- */
+/* ---- Reading. Calls by a handle refuse NO_HANDLE. -------------------------------------------- */
 
-/*
- * The key of the entry that a handle is on. Makes no atomic step.
- *
- * Refuses NO_HANDLE.
- */
+/* The key of the entry that a handle is on. Makes no atomic step. */
 FERRETGOLD_INLINE ferretgold_status ferretgold_handle_key(ferretgold_client *client,
                                                           ferretgold_handle handle,
                                                           ferretgold_key *key);
 
-/*
- * How many bytes the value has. Costs a load; of a standalone entry none. Bound: 1.
- *
- * Refuses NO_HANDLE.
- */
+/* How many bytes the value has. Costs a load; of a standalone entry none. Bound: 1. */
 FERRETGOLD_INLINE ferretgold_status ferretgold_value_len(ferretgold_client *client,
                                                          ferretgold_handle handle, size_t *length);
 
@@ -575,8 +563,6 @@ typedef struct ferretgold_part {
  *
  * Costs a load for the length, and one for each word of eight bytes that has some of these; of a
  * standalone entry a copy. Bound: W + 1.
- *
- * Refuses NO_HANDLE.
  */
 FERRETGOLD_INLINE ferretgold_status ferretgold_read_part(ferretgold_client *client,
                                                          ferretgold_handle handle, size_t offset,
@@ -585,10 +571,9 @@ FERRETGOLD_INLINE ferretgold_status ferretgold_read_part(ferretgold_client *clie
 
 /*
  * Reads the value of a visible entry of the key: what ferretgold_lookup, ferretgold_read_value and
- * ferretgold_release do together, in one call and with no handle. The value is copied to the front
- * of a buffer of `capacity` bytes, and `length` gets its length; the rest of the buffer stays.
- * `buffer` may be null if `capacity` is 0, and `length` may be null. With `useful` the reading is a
- * use of the entry. It uses no serial, and frees nothing.
+ * ferretgold_release do together, in one call and with no handle. `buffer`, `capacity` and `length`
+ * are as for ferretgold_read_value. With `useful` the reading is a use of the entry. It uses no
+ * serial, and frees nothing.
  *
  * First it reads by loads alone, and changes no word of the cache: where the entry's uses are 3 and
  * more (one more is one that the clock can't see) or the reading is no use, where the cache doesn't
@@ -605,6 +590,21 @@ FERRETGOLD_INLINE ferretgold_status ferretgold_read_part(ferretgold_client *clie
 FERRETGOLD_INLINE ferretgold_status ferretgold_get(ferretgold_client *client,
                                                    const ferretgold_key *key, void *buffer,
                                                    size_t capacity, bool useful, size_t *length);
+
+/*
+ * Reads a part of the value of a visible entry of the key: what ferretgold_lookup,
+ * ferretgold_read_part and ferretgold_release, which isn't to erase, do together, in one call. It
+ * takes a handle for the time of the call, which uses a serial. `offset`, `buffer`, `capacity` and
+ * `part` are as for ferretgold_read_part. With `useful` the reading is a use of the entry.
+ *
+ * Costs what the three cost. Bound: 8*L + W + 9.
+ *
+ * MISS: nothing of the key was found; `buffer` and `part` stay. Refuses HANDLES_FULL, SPENT, as
+ * ferretgold_lookup.
+ */
+ferretgold_status ferretgold_get_part(ferretgold_client *client, const ferretgold_key *key,
+                                      size_t offset, void *buffer, size_t capacity, bool useful,
+                                      ferretgold_part *part);
 
 /* ---- Walks ----------------------------------------------------------------------------------- */
 

@@ -316,6 +316,14 @@ class client {
         return ferretgold_get(get(), &key, buffer, capacity, useful, length);
     }
 
+    // The same of bytes from an offset on, as handle's read_part does; `part` gets what that returns,
+    // and may be null. It takes a handle for the time of the call: OK, MISS, HANDLES_FULL or SPENT.
+    ferretgold_status get_part(const ferretgold_key &key, std::size_t offset, void *buffer,
+                               std::size_t capacity, ferretgold_part *part,
+                               bool useful = true) noexcept {
+        return ferretgold_get_part(get(), &key, offset, buffer, capacity, useful, part);
+    }
+
     // Inserts an entry; `inserted` gets what came of it, and may be null.
     ferretgold_status insert(const ferretgold_key &key, const void *value, std::size_t length,
                              std::uint32_t charge, ferretgold_priority priority = FERRETGOLD_LOW,

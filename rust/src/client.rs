@@ -3,7 +3,7 @@
 use crate::handle::Handle;
 use crate::meant::erased_where;
 use crate::refused::judged;
-use crate::{raw, Cache, Config, Inserted, Key, Priority, Refused, Stats};
+use crate::{raw, Cache, Config, Inserted, Key, Part, Priority, Refused, Stats};
 use std::ptr::NonNull;
 
 /// What a reading by a key found.
@@ -132,6 +132,39 @@ impl Client<'_> {
         let status =
             unsafe { raw::ferretgold_get(self.raw(), &key, at, room, useful, &mut length) };
         got_of(status, length)
+    }
+
+    /// Copies bytes of the value of an entry of the key, if there is one, as [`Handle::read_part`] does;
+    /// `useful` says whether that is a use of the entry. It takes a handle for the time of the call.
+    /// Refuses [`Refused::HANDLES_FULL`], [`Refused::SPENT`].
+    ///
+    /// ```
+    /// # use ferretgold::{Cache, Config, Key, Part, Priority};
+    /// # let cache = Cache::open(&Config::default()).unwrap();
+    /// # let client = cache.client().unwrap();
+    /// # let key = Key { w0: 7, w1: 1 };
+    /// # client.insert(key, b"a block", 7, Priority::Low).unwrap();
+    /// let mut middle = [0; 3];
+    /// let part = client.get_part(key, 2, &mut middle, true).unwrap();
+    /// assert_eq!(part, Some(Part { given: 3, length: 7 }));
+    /// assert_eq!(&middle, b"blo");
+    /// ```
+    pub fn get_part(
+        &self,
+        key: Key,
+        offset: usize,
+        buffer: &mut [u8],
+        useful: bool,
+    ) -> Result<Option<Part>, Refused> {
+        let (at, room, mut part) = (buffer.as_mut_ptr().cast(), buffer.len(), Part::default());
+        let client = self.raw();
+        let status =
+            unsafe { raw::ferretgold_get_part(client, &key, offset, at, room, useful, &mut part) };
+        match status {
+            0 => Ok(Some(part)),
+            1 => Ok(None),
+            why => Err(Refused(why)),
+        }
     }
 
     /// Inserts an entry, and keeps no handle on it.

@@ -212,6 +212,15 @@ extern "C" {
         useful: bool,
         length: *mut usize,
     ) -> u32;
+    pub fn ferretgold_get_part(
+        client: *mut Client,
+        key: *const Key,
+        offset: usize,
+        buffer: *mut c_void,
+        capacity: usize,
+        useful: bool,
+        part: *mut Part,
+    ) -> u32;
     pub fn ferretgold_image_open(image: *mut *mut Image) -> u32;
     pub fn ferretgold_image_add(
         image: *mut Image,

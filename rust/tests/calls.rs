@@ -33,10 +33,17 @@ fn a_value_is_read_by_its_key() {
     let client = cache.client().unwrap();
     let mut block = [9; 6];
     assert_eq!(client.get(KEY, &mut block, true), Got::Miss);
+    assert_eq!(client.get_part(KEY, 0, &mut block, true), Ok(None));
     assert_eq!(inserts(&client, KEY, b"hello"), Ok(Inserted::Placed));
     assert_eq!(inserts(&client, KEY, b"other"), Ok(Inserted::There));
     assert_eq!(client.get(KEY, &mut block[..4], true), Got::TooShort(5));
     assert_eq!(block, [9; 6]);
+    let tail = Some(Part {
+        given: 2,
+        length: 5,
+    });
+    assert_eq!(client.get_part(KEY, 3, &mut block, false), Ok(tail));
+    assert_eq!(&block, b"lo\x09\x09\x09\x09");
     assert_eq!(client.get(KEY, &mut block, false), Got::Value(5));
     assert_eq!(&block, b"hello\x09");
     assert_eq!(client.erase(KEY), 1);
@@ -45,8 +52,8 @@ fn a_value_is_read_by_its_key() {
     assert_eq!(inserts(&client, KEY, b""), Ok(Inserted::Placed));
     assert_eq!(client.get(KEY, &mut [], true), Got::Value(0));
     let counted = Counts {
-        hits: 2,
-        misses: 3,
+        hits: 3,
+        misses: 4,
         placed: 2,
         there: 1,
         by_turns: [3, 0, 0, 0, 0, 0, 0, 0, 0, 0, 0, 0, 0, 0, 0, 0],
@@ -142,6 +149,7 @@ fn refusals_have_a_status_and_a_text() {
         "the client holds as many handles as it may"
     );
     assert_eq!(held[0].as_ref().unwrap().reref().unwrap_err(), why);
+    assert_eq!(client.get_part(KEY, 0, &mut [], true), Err(why));
     let why = client
         .insert_pinned(OTHER, b"", 0, Priority::Low)
         .unwrap_err();

@@ -48,7 +48,7 @@ macro_rules! inserted {
 }
 
 /// What is done with an entry, and its countdown then.
-const OF_BYTES: [(&str, fn(&Client), u32); 16] = [
+const OF_BYTES: [(&str, fn(&Client), u32); 18] = [
     ("high", |it| insert(it, High), 3),
     ("low", |it| insert(it, Low), 2),
     ("by default", |it| insert(it, Priority::default()), 2),
@@ -74,6 +74,16 @@ const OF_BYTES: [(&str, fn(&Client), u32); 16] = [
     (
         "read as no use",
         inserted!(it: it.get(KEY, &mut [0; 2], false)),
+        1,
+    ),
+    (
+        "read in part",
+        inserted!(it: it.get_part(KEY, 1, &mut [0; 2], true).unwrap()),
+        2,
+    ),
+    (
+        "read in part as no use",
+        inserted!(it: it.get_part(KEY, 1, &mut [0; 2], false).unwrap()),
         1,
     ),
     (

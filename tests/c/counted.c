@@ -56,6 +56,7 @@ static void each_call(void) {
     for (int k = 0; k < 3; k++) {
         EXPECT(ferretgold_get(it[0], &KEY, NULL, 0, true, NULL), 1);
     }
+    EXPECT(ferretgold_get_part(it[0], &KEY, 0, NULL, 0, true, NULL), 1);
     EXPECT(ferretgold_insert(it[0], &KEY, "a", 1, 1, FERRETGOLD_LOW, &came[0]), 0);
     EXPECT(ferretgold_insert(it[0], &KEY, "b", 1, 1, FERRETGOLD_LOW, &came[1]), 0);
     for (int k = 0; k < 4; k++) {
@@ -68,8 +69,10 @@ static void each_call(void) {
            true);
     EXPECT(ferretgold_get(it[0], &KEY, &byte, 1, true, NULL), 0);
     EXPECT(ferretgold_get(it[0], &KEY, NULL, 0, true, NULL), 20);
+    EXPECT(ferretgold_get_part(it[0], &KEY, 0, NULL, 0, true, NULL), 0);
     EXPECT(ferretgold_lookup(it[0], &KEY, &handle[4]), 0);
     EXPECT(ferretgold_lookup(it[0], &KEY, &none), 23);
+    EXPECT(ferretgold_get_part(it[0], &KEY, 0, NULL, 0, true, NULL), 23);
     EXPECT(ferretgold_insert_pinned(it[0], &KEY, "", 0, 1, FERRETGOLD_LOW, NULL, &none), 23);
     for (int k = 0; k < 5; k++) {
         EXPECT(ferretgold_insert(it[0], &KEY, "", 0, 601, FERRETGOLD_LOW, NULL), 25);
@@ -79,11 +82,11 @@ static void each_call(void) {
     for (int k = 0; k < 3; k++) {
         EXPECT(ferretgold_get(it[1], &KEY, &byte, 1, true, NULL), 0);
     }
-    const ferretgold_counts first = {.hits = 2, .misses = 6, .placed = 2, .there = 4, .refused = 6,
+    const ferretgold_counts first = {.hits = 3, .misses = 8, .placed = 2, .there = 4, .refused = 6,
                                      .by_turns = {12}};
     counts_of(cache, it[0], first);
     counts_of(cache, it[1], (ferretgold_counts){.hits = 3, .refused = 1, .by_turns = {1}});
-    const ferretgold_counts all = {.hits = 5, .misses = 6, .placed = 2, .there = 4, .refused = 7,
+    const ferretgold_counts all = {.hits = 6, .misses = 8, .placed = 2, .there = 4, .refused = 7,
                                    .by_turns = {13}};
     counts(cache, all);
     EXPECT(ferretgold_client_close_releasing(cache, it[0]), 0);

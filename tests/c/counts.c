@@ -51,8 +51,11 @@ static void release(worker *it, uint64_t how) {
 static void look(worker *it, const ferretgold_key *key, uint64_t how) {
     char bytes[ROOM];
     atomic_fetch_add(&it->progress->looks[0], 1);
-    if (how % 2 == 0) {
+    if (how % 4 == 0) {
         looked(it, ferretgold_get(it->client, key, bytes, how % 16, how % 3 == 0, NULL));
+    } else if (how % 4 == 2) {
+        looked(it, ferretgold_get_part(it->client, key, how % 5, bytes, how % 16, how % 3 == 0,
+                                       NULL));
     } else {
         ferretgold_handle handle = {0, 0, 0, 0};
         const ferretgold_status status = ferretgold_lookup(it->client, key, &handle);

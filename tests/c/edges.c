@@ -248,6 +248,9 @@ static void nulls(ferretgold_client *it) {
     EXPECT(ferretgold_get(NULL, &KEY, &byte, 1, true, &length), 16);
     EXPECT(ferretgold_get(it, NULL, &byte, 1, true, &length), 16);
     EXPECT(ferretgold_get(it, &KEY, NULL, 1, true, &length), 16);
+    EXPECT(ferretgold_get_part(NULL, &KEY, 0, &byte, 1, true, NULL), 16);
+    EXPECT(ferretgold_get_part(it, NULL, 0, &byte, 1, true, NULL), 16);
+    EXPECT(ferretgold_get_part(it, &KEY, 0, NULL, 1, true, NULL), 16);
     EXPECT(ferretgold_usage(NULL, &wide), 16);
     EXPECT(ferretgold_usage(it, NULL), 16);
     EXPECT(ferretgold_pinned_usage(NULL, &wide), 16);
@@ -338,6 +341,7 @@ static void refusals(ferretgold_client *it, ferretgold_client *other) {
     no_handle(other, held);
     no_handle(it, handle);
     EXPECT(ferretgold_get(it, &KEY, bytes, 2, true, NULL), 0);
+    EXPECT(ferretgold_get_part(it, &KEY, 0, NULL, 0, true, NULL), 0);
     EXPECT(memcmp(bytes, "ab", 2), 0);
     EXPECT(ferretgold_erase(it, &OTHER, NULL), 0);
     EXPECT(ferretgold_erase(it, &KEY, NULL), 0);
@@ -353,6 +357,7 @@ static void idle(ferretgold_cache *cache, ferretgold_client *it, ferretgold_hand
     ferretgold_key key = {5, 5};
     uint64_t wide = 5;
     uint32_t hidden = 5;
+    ferretgold_part part = {5, 5};
     size_t length = 5;
     bool freed = true;
     char byte = 5;
@@ -368,6 +373,7 @@ static void idle(ferretgold_cache *cache, ferretgold_client *it, ferretgold_hand
     EXPECT(ferretgold_read_value(it, handle, &byte, 1, &length), 36);
     EXPECT(ferretgold_read_part(it, handle, 0, &byte, 1, NULL), 36);
     EXPECT(ferretgold_get(it, &KEY, &byte, 1, true, &length), 36);
+    EXPECT(ferretgold_get_part(it, &KEY, 0, &byte, 1, true, &part), 36);
     EXPECT(ferretgold_usage(it, &wide), 36);
     EXPECT(ferretgold_pinned_usage(it, &wide), 36);
     EXPECT(ferretgold_occupancy(it, &wide), 36);
@@ -378,6 +384,7 @@ static void idle(ferretgold_cache *cache, ferretgold_client *it, ferretgold_hand
     EXPECT(ferretgold_client_close_releasing(cache, it), 36);
     EXPECT(given.serial == 5 && inserted == 7 && stats.probes == 5 && key.w0 == 5, true);
     EXPECT(wide == 5 && hidden == 5 && length == 5 && freed && byte == 5, true);
+    EXPECT(part.given == 5 && part.length == 5, true);
     EXPECT(ferretgold_holds(it, handle), false);
     EXPECT(ferretgold_held(it), 0);
     EXPECT(ferretgold_serials_left(it), 0);

@@ -174,6 +174,8 @@ static void handles(unsigned due) {
     ferretgold_handle more;
     EXPECT(ferretgold_lookup(on.it, &THERE, &more), wanted);
     EXPECT(ferretgold_lookup(on.it, &ABSENT, &more), wanted);
+    EXPECT(ferretgold_get_part(on.it, &THERE, 0, NULL, 0, true, NULL), wanted);
+    EXPECT(ferretgold_get_part(on.it, &ABSENT, 0, NULL, 0, true, NULL), wanted);
     EXPECT(ferretgold_reref(on.it, on.held, &more), wanted);
     EXPECT(ferretgold_reref(on.it, none, &more), 17);
     EXPECT(ferretgold_pin_at(on.it, 0, 0, &held), wanted);

@@ -28,7 +28,8 @@ from pathlib import Path
 
 TOP = Path(__file__).resolve().parent.parent.parent
 # What is compiled into the library.
-OBJECTS = [f"src/{it}.c" for it in ("ferretgold", "closed", "counts", "drawing", "heap", "image", "sizes", "walk")]
+OBJECTS = [f"src/{it}.c" for it in
+           ("ferretgold", "closed", "counts", "drawing", "heap", "image", "sizes", "texts", "walk")]
 # What is compiled only where there is xxhash.h.
 SAVED = ["file", "chosen", "dump", "object_file", "object_dump"]  # each with a test of that name
 SAVES = [*(f"src/{it}.c" for it in SAVED), "include/ferretgold_file.hpp"]

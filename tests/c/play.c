@@ -1,8 +1,9 @@
 /* Plays traces of calls through ferretgold.h alone, and compares each answer with the one recorded
  * beside its call; then tries what no trace shows (edges.c, order.c, counted.c, seeds.c, budgets.c,
  * closed.c, image.c, walk.c). It is what tests/c/plant.py tries planted bugs by.
- * Usage: play FILE.. where a file has cases as tests/program/calls has, and a letter more:
+ * Usage: play FILE.. where a file has cases as tests/program/calls has, and two letters more:
  *     c T k0 k1 U|N n     reads a key's value to a buffer of n bytes: value V, short LENGTH, miss
+ *     c Q k0 k1 U|N o n   reads a part of it, from byte o on: value V of LENGTH, miss, refused WHY
  */
 #include "expect.h"
 #include "heap.h"
@@ -226,6 +227,32 @@ static void get(ferretgold_client *it, char **words, char *out) {
     }
 }
 
+/* A key, whether the reading is a use, where it begins, and how long the buffer is. */
+static void get_part(ferretgold_client *it, char **words, char *out) {
+    unsigned char bytes[BYTES];
+    ferretgold_key key = key_of(words);
+    ferretgold_part part = {77, 77};
+    const size_t offset = (size_t)number(words[3]), capacity = (size_t)number(words[4]);
+    const uint64_t left = ferretgold_serials_left(it);
+    const uint32_t held = ferretgold_held(it);
+    memset(bytes, 0x5a, sizeof bytes);
+    const ferretgold_status status =
+        ferretgold_get_part(it, &key, offset, capacity == 0 ? NULL : bytes, capacity,
+                            *words[2] == 'U', &part);
+    EXPECT(left - ferretgold_serials_left(it), status == 0);
+    EXPECT(ferretgold_held(it), held);
+    EXPECT(bytes[status == 0 ? part.given : 0], 0x5a);
+    EXPECT(part.given == 77 && part.length == 77, status != 0);
+    if (status == 0) {
+        say_value(out, bytes, part.given);
+        sprintf(out + strlen(out), " of %zu", part.length);
+    } else if (status == 1) {
+        sprintf(out, "miss");
+    } else {
+        sprintf(out, "refused %s", refusal_of(status));
+    }
+}
+
 static void totals(ferretgold_client *it, char *out) {
     uint64_t usage = 0, pinned = 0, occupancy = 0;
     EXPECT(ferretgold_usage(it, &usage), 0);
@@ -277,6 +304,7 @@ static void play(char **words, char *out) {
         case 'R': release(it, first, *words[3] == 'U', *words[4] == 'E', out); break;
         case 'V': read_value(it, first, out); break;
         case 'T': get(it, words + 2, out); break;
+        case 'Q': get_part(it, words + 2, out); break;
         case 'U': totals(it, out); break;
         case 'W': slot(it, words + 2, out); break;
         case 'S': statistics(it, out); break;

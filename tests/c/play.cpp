@@ -207,6 +207,7 @@ struct stage {
         case 'E':
             return "erased " + std::to_string(clients[c].erase({number(w[2]), number(w[3])}));
         case 'T': return get(c, w);
+        case 'Q': return get_part(c, w);
         default: return counts(clients[c], letter, w);
         }
     }
@@ -219,6 +220,16 @@ struct stage {
         return status == 0    ? value_text(bytes, length)
                : status == 20 ? "short " + std::to_string(length)
                               : status == 1 ? "miss" : "?";
+    }
+
+    std::string get_part(std::size_t c, const words &w) {
+        unsigned char bytes[64];
+        ferretgold_part part{};
+        const int status = clients[c].get_part({number(w[2]), number(w[3])}, number(w[5]), bytes,
+                                               number(w[6]), &part, w[4] == "U");
+        return status > 1    ? refusal(status)
+               : status == 1 ? "miss"
+                             : value_text(bytes, part.given) + " of " + std::to_string(part.length);
     }
 
     std::string counts(const client &of, char letter, const words &w) {
@@ -374,15 +385,17 @@ void defaults() {
     std::size_t length = 0;
     EXPECT(one.get(KEY, bytes, sizeof bytes, &length) == 0 && length == 2);
     EXPECT(uses() == 3);
-    one.lookup(KEY).release();
+    EXPECT(one.get_part(KEY, 1, bytes, sizeof bytes, nullptr) == 0 && bytes[0] == 'b');
     EXPECT(uses() == 4);
+    one.lookup(KEY).release();
+    EXPECT(uses() == 5);
     (void)one.lookup(KEY);
-    EXPECT(uses() == 5);
+    EXPECT(uses() == 6);
     one.lookup(KEY).release(false);
-    EXPECT(uses() == 5);
+    EXPECT(uses() == 6);
     handle held = one.lookup(KEY);
     held = handle();
-    EXPECT(uses() == 6);
+    EXPECT(uses() == 7);
     { const client gone = std::move(one); }
     {
         const ferretgold::lease given(it);
@@ -390,7 +403,7 @@ void defaults() {
         EXPECT(ferretgold_lookup(given.get(), &KEY, &left) == 0);
     }
     one = it.open_client();
-    EXPECT(uses() == 6);
+    EXPECT(uses() == 7);
     EXPECT(one.erase(KEY) == 1 && one.erase(KEY) == 0);
     (void)one.insert_pinned(KEY, "", 0, 1);
     EXPECT(uses() == 2);
@@ -531,6 +544,7 @@ void nobody() {
     is_null([&] { return it.reref(why); }, [&] { return it.reref(); });
     EXPECT(one.number() == 0 && one.held() == 0 && one.serials_left() == 0 && !one.holds(it));
     EXPECT(one.get(KEY, nullptr, 0, nullptr) == FERRETGOLD_NULL);
+    EXPECT(one.get_part(KEY, 0, nullptr, 0, nullptr) == FERRETGOLD_NULL);
 }
 
 // What calls say by `why`, and return.

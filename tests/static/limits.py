@@ -77,6 +77,8 @@ def limits():
 
 # Sizes at which bounds are compared: slots of a shard, payload words, shards.
 SIZES = [(8, 1, 1), (64, 3, 2), (8192, 512, 64), (65536, 100, 7)]
+# What C makes of several calls: it has the sum of their bounds.
+SUMS = {"get_part": ("lookup", "read_part", "release")}
 DEFINED = {"hcc_table": "Steps", "hcc_charge": "Evicted", "hcc_shard": "Inserted"}
 VARIABLES = {"self.now.geometry.slots": "L", "self.now.geometry.room": "W", "length self.now.shards.items": "S",
              "words_for result": "W", "words_for len": "W", "words_across offset result.given": "W",
@@ -188,6 +190,8 @@ def bounds():
         bound = clause_bound(it)
         if it.owner == "Cache" and bound:
             has.setdefault(it.name, bound)
+    for name, calls in SUMS.items():
+        has[name] = " + ".join(f"({has[it]})" for it in calls)
     seen = set()
     for file, name, said, *at in [*said_in_header(), *said_in_guide(), *said_in_design()]:
         if name not in has:
