@@ -34,7 +34,8 @@ ALLOCATES = re.compile(
 )
 # Public functions that may allocate, since no cache runs in them; and one that says that it does.
 MAY_ALLOCATE = {
-    "hcc_cache": "Cache::new Cache::reopen Closed::image Cache::close ObjectCache::new ObjectCache::close ClosingRoom::none",
+    "hcc_cache": "Cache::new Cache::reopen Closed::image Cache::close ObjectCache::new ObjectCache::close ClosingRoom::none"
+    " Cache::insert_pinned_copy",
     "hcc_block": "",
     "hcc_c": "ferretgold_raw_open ferretgold_raw_reopen ferretgold_raw_close ferretgold_raw_close_keeping"
     " ferretgold_raw_closed_open ferretgold_raw_closed_free ferretgold_raw_image_open"
@@ -42,11 +43,13 @@ MAY_ALLOCATE = {
     " ferretgold_raw_object_open ferretgold_raw_object_close ferretgold_raw_objects_open"
     " ferretgold_raw_objects_end",
 }
+# Methods that allocate, of a type that only one of these functions makes; and how it makes one.
+MADE_THERE = {"LentStanding": (re.compile(r"\bLent \{"), "Cache::insert_pinned_copy")}
 # Public functions that nothing above their crate calls, by the reason why they are there.
 CALLED_BY_NOBODY = {
     "the sentence of an error, for whoever shows it": "hcc_core::CoreError::text hcc_shard::ReopenError::text"
     " hcc_cache::NewError::text hcc_cache::LookupError::text hcc_cache::InsertError::text hcc_cache::CloseError::text"
-    " hcc_cache::ObjectNewError::text hcc_cache::ObjectError::text hcc_cache::ObjectCloseError::text"
+    " hcc_cache::CopyError::text hcc_cache::ObjectNewError::text hcc_cache::ObjectError::text hcc_cache::ObjectCloseError::text"
     " hcc_block::ReadError::text hcc_player::TextFault::text",
     "for whoever reads through the cache: a source for tests, and the key of a block that is to be erased":
     "hcc_block::FailingSource::new hcc_block::key_of",
@@ -127,6 +130,11 @@ def no_allocation():
     named = {label for labels in MAY_ALLOCATE.values() for label in labels.split()}
     yield from (f"there is no public function {it}, which may allocate" for it in named - {it.label for it in may})
     way = {it: None for it in code.public if it.crate in TOPS and it not in may and not is_law(it)}
+    made = set()
+    for name, (makes, maker) in MADE_THERE.items():
+        made |= {it for it in code.functions if it.label.startswith(f"{name}::")}
+        yield from (f"{it.label} makes one of {name}" for it in code.functions
+                    if makes.search(it.body) and it.label != maker)
     due = list(way)
     while due:
         caller = due.pop()
@@ -137,7 +145,7 @@ def no_allocation():
                 at = way[at]
             yield f"crates/{caller.crate}/{caller.path}: {found[0]} by {' < '.join(ways)}"
         for it in code.called_by(caller):
-            if it not in way:
+            if it not in way and it not in made:
                 way[it] = caller
                 due.append(it)
 

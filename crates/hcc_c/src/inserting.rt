@@ -54,14 +54,9 @@ impl Session {
         ensures puts { PutsPinned key charge priority value.now result self.old self.new }
     {
         judge(self.cache.room(), value.len(), charge)?;
-        let answer = self.cache.insert_pinned_copy(
-            alloc,
-            &mut self.client,
-            key,
-            value,
-            charge,
-            priority,
-        );
+        let answer = self
+            .cache
+            .insert_pinned_copy(alloc, &mut self.client, key, value, charge, priority);
         let told = match answer {
             Ok((handle, inserted)) => Ok((CHandle::of(self.cache_number, handle), inserted)),
             Err(why) => Err(why),

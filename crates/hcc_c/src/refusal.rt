@@ -4,7 +4,8 @@ ghost use Rattle.hcc_c.specs.Refusals.{code_of, copying_of, inserted_code, inser
 
 use crate::inserting::Unfit;
 use hcc_cache::{
-    CopyError, InsertError, Inserted, LookupError, NewError, ObjectError, ObjectNewError, Placing, Priority,
+    CopyError, InsertError, Inserted, LookupError, NewError, ObjectError, ObjectNewError, Placing,
+    Priority,
 };
 
 /// Why a call does nothing. The first that is due is returned.

@@ -5,7 +5,8 @@ ghost use Rattle.hcc_c.specs.Counts.{counted_get, counted_insert, counted_pinned
 ghost use Rattle.hcc_c.specs.Shapes.{config_of, entry_of, key_of, c_handle_of, c_held_entry_of, parts_in, stats_of, words_of};
 
 use hcc_cache::{
-    ClosedEntry, Config, CopyError, Got, Handle, HandleParts, HeldEntry, InsertError, Inserted, Part,
+    ClosedEntry, Config, CopyError, Got, Handle, HandleParts, HeldEntry, InsertError, Inserted,
+    Part,
 };
 use hcc_word::layout::VISIBLE;
 use hcc_word::{hit, releases, state};

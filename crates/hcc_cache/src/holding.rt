@@ -100,7 +100,9 @@ impl Standing for Vec<u8> {
     ghost use Rattle.hcc_cache.specs.declared.holding.Value.TheVariants.{Bytes};
 
     ghost bytes = { λ value. value.items };
+
     ghost stands = { λ value it. it ≡ Bytes value };
+
     ghost lacks = { ⊥ };
 
     #[inline(always)]
@@ -118,7 +120,9 @@ impl Standing for [u8; 8] {
     ghost use Rattle.hcc_cache.specs.declared.holding.Value.TheVariants.{Word};
 
     ghost bytes = { λ word. word };
+
     ghost stands = { λ word it. it ≡ Word word };
+
     ghost lacks = { ⊥ };
 
     #[inline(always)]
@@ -143,7 +147,9 @@ impl Standing for Lent<'_> {
     ghost use Rattle.hcc_cache.specs.declared.holding.Value.TheVariants.{Bytes};
 
     ghost bytes = { λ lent. lent.bytes.now };
+
     ghost stands = { λ lent it. (copy : _) × (it ≡ Bytes copy) };
+
     ghost lacks = { Unit {0} };
 
     #[inline(always)]

@@ -274,9 +274,9 @@ impl<T: Tag> Cache<T> {
     /// The same of a value that stays the caller's. It is copied only where it comes to stand
     /// alone, into memory that is asked for then: what is placed takes none.
     ///
-    /// It is refused as `insert_pinned` is. Last of all it is refused where there is no such memory:
-    /// evictions stay made, a serial is used, and the entry, which stood alone, was let go, so that
-    /// charge and place are given back.
+    /// It is refused as `insert_pinned` is, and last where there is no such memory: evictions stay
+    /// made, a serial is used, and the entry, which stood alone, was let go, so that charge and place
+    /// are given back.
     ///
     /// It costs what `insert_pinned` does; where memory was refused two subtractions more.
     pub fn insert_pinned_copy(

@@ -49,7 +49,8 @@ pub use closed::Closed;
 pub use closing::law_closed;
 pub use config::Config;
 pub use errors::{
-    CloseError, CopyError, InsertError, LookupError, NewError, ObjectCloseError, ObjectError, ObjectNewError,
+    CloseError, CopyError, InsertError, LookupError, NewError, ObjectCloseError, ObjectError,
+    ObjectNewError,
 };
 pub use following::{Witness, law_told};
 pub use handle::{Handle, HandleParts};

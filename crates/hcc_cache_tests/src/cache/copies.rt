@@ -71,8 +71,9 @@ fn shows(rt: &impl Abort, cache: &Store, client: &mut Client<AnyBytes>, handle: 
     let mut bytes = [0xee; 16];
     let part = cache.read_part(client, handle, 0, &mut bytes);
     assert_eq!(rt; (part.given, part.length), (5, 5));
-    assert_eq!(rt; &bytes[..6], b"alone\xee");
+    assert_eq!(rt; &bytes[..6], b"alone\xee".as_slice());
     assert_eq!(rt; cache.usage(client), 7);
+    assert!(rt; client.holds(handle), "the handle is gone");
     assert!(rt;
         cache.release(client, handle, false, false),
         "it is left with no handle"

@@ -414,11 +414,14 @@ returns-in-Err-into_value g c =
           did_at cache old new i shard was is at change
           (λ s a b. (m : ShardSeat (Seeded g.row.T.Denot))
           × PinnedAs (fits_seeded g.T.Tag.fits) s asked had has (Ok Standalone) a m
-          × StaysAt s m b × SameCounts m b)
-          (mid, pins_as cache old old i shard was mid at g.T.Tag.fits draft asked same had has
-          (Ok c.in-Ok-Standalone.field-0) (Ok Standalone)
-          (ap Ok c.in-Ok-Standalone.field-0-is) c.in-Ok-Standalone.ensures.evicts,
-          c.release_standalone.ensures.stays, c.release_standalone.ensures.counts)
+          × StaysAt s m b × SameCounts m b) (
+            mid,
+            pins_as cache old old i shard was mid at g.T.Tag.fits draft asked same had has
+                (Ok c.in-Ok-Standalone.field-0) (Ok Standalone)
+                (ap Ok c.in-Ok-Standalone.field-0-is) c.in-Ok-Standalone.ensures.evicts,
+            c.release_standalone.ensures.stays,
+            c.release_standalone.ensures.counts,
+          )
           (shard_in cache c.args.key) here;
       alone = alone_same old new change.most changed.alone;
       shown = λ one. tt;

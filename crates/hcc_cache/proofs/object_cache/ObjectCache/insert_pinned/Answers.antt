@@ -13,7 +13,8 @@ returns-in-Ok-clause-known c =
     let hands = c.in-Ok.ensures.list in
     grows_by c.args.self.now old new c.requires.known c.in-Ok.ensures.known
     (map as_freed hands.did.these) hands.did.puts (λ v. v ≡ Word c.to_le_bytes-value.result)
-    c.in-Ok.made (λ v is. (c.to_le_bytes-value.result, is)) c.in-Ok.ensures.alone c.in_ok-may_pin.ensures.may.0.2
+    c.in-Ok.made (λ v is. (c.to_le_bytes-value.result, is)) c.in-Ok.ensures.alone
+    c.in_ok-may_pin.ensures.may.0.2
 
 pub returns-in-Ok-clause-early : goal.returns-in-Ok-clause-early
 returns-in-Ok-clause-early c = λ not. absurd (not c.in_ok-may_pin.ensures.may)
