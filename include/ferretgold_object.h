@@ -142,7 +142,7 @@ typedef struct ferretgold_object_cache ferretgold_object_cache;
 /*
  * How many bytes a cache of this configuration allocates:
  *     shards * (272 + slots * 64) + 6640
- *     + clients * (1320 + 72 * shards + 192 * handles + 24 * gone)
+ *     + clients * (1384 + 72 * shards + 192 * handles + 24 * gone)
  * A shard's table is rounded up as ferretgold_memory says. The checking library takes more. 0 where
  * ferretgold_object_config_check refuses.
  */
@@ -235,7 +235,7 @@ ferretgold_status ferretgold_object_release(ferretgold_object_cache *cache,
                                             const ferretgold_object_handle *handle, bool useful,
                                             bool erase_if_last, bool *freed);
 
-/* The same, and returns whether this call freed an entry. No pointer is null. */
+/* The same, and returns whether this call freed an entry. Only the handle may be null. */
 bool ferretgold_object_give_back(ferretgold_object_cache *cache,
                                  const ferretgold_object_handle *handle, bool useful,
                                  bool erase_if_last);

@@ -7,6 +7,10 @@
 #include "ferretgold.h"
 
 static inline void count_more(uint64_t *number) {
+#ifdef __x86_64__ /* by one instruction, of which compilers make three */
+    __asm__("addq $1, %0" : "+m"(*number) : : "cc");
+    return;
+#endif
     __atomic_store_n(number, __atomic_load_n(number, __ATOMIC_RELAXED) + 1, __ATOMIC_RELAXED);
 }
 

@@ -23,7 +23,29 @@ SLOWLY bool has_deleted_alone(ferretgold_object_cache *cache, object_cell *cell)
 }
 
 void run_deleters(object_cell *it) {
-    delete_gone(it, it->in_use);
+    object_client *client = it->in_use;
+    gone gone;
+    do {
+        gone.left = 1;
+        while (gone.left > 0 && is_taken(client, &gone)) {
+            client->untaken = false;
+            delete_object(client->cache, &gone.key, &gone.value);
+            gone.left += client->untaken; /* by its own calls */
+        }
+    } while (it->alone != NULL && has_deleted_alone(client->cache, it));
+    client->untaken = false;
+}
+
+/* It loops for what one insertion frees; what deleters' calls freed, or left, is the other's. */
+void delete_gone(object_cell *cell, gone *it) {
+    object_client *client = cell->in_use;
+    do {
+        delete_object(client->cache, &it->key, &it->value);
+        if (RARELY(client->untaken)) {
+            run_deleters(cell);
+            return;
+        }
+    } while (it->left > 0 && is_taken(client, it));
 }
 
 /* As few as each list has places for, so that each may free its entry. */
@@ -58,7 +80,7 @@ SLOWLY static object_cell *entered_again(object_cell *it) {
 /* It gives a few handles back that other threads left, or all of another thread's client. */
 SLOWLY object_cell *enter_slowly(ferretgold_object_cache *cache) {
     object_cell *it = cell_of(cache);
-    if (it == NULL || it->depth > 0) {
+    if (it == NULL || is_in_call(it)) {
         return entered_again(it);
     }
     if ((it->client == NULL || !own_entered(it)) && !client_found(cache, it)) {
@@ -73,7 +95,7 @@ SLOWLY object_cell *enter_slowly(ferretgold_object_cache *cache) {
 
 object_cell *enter_own(object_client *client) {
     object_cell *it = cell_of(client->cache);
-    if (it == NULL || it->depth > 0) {
+    if (it == NULL || is_in_call(it)) {
         return it == NULL || it->in_use != client ? NULL : entered_again(it);
     }
     if (it->client != client || !own_entered(it)) {
@@ -105,7 +127,7 @@ SLOWLY bool may_retry(object_cell *it, uint32_t status, uint32_t *changes) {
 }
 
 void relieve(object_cell *it, object_client *client) {
-    if (it == NULL || it->depth > 0 || !has_returned(client)) {
+    if (it == NULL || is_in_call(it) || !has_returned(client)) {
         return;
     }
     if (client == it->client ? !own_entered(it) : !client_claimed(client)) {
