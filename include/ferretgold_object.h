@@ -310,8 +310,8 @@ ferretgold_status ferretgold_object_occupancy(ferretgold_object_cache *cache, ui
  * client, the last one counts it; those for which none was to be had are in the sum, and under the number
  * that is as many as there are clients. A walk's handles and insertions' are no hits.
  *
- * Proved clients of objects tell no statistics: `dropped` and `standalone` have those that met their key,
- * and there, evicted, evicted_hit, freed, turns, lost and by_turns are 0.
+ * An insertion that is tried again counts once, with the turns and evictions of each try. `lost` has what
+ * insertions lost, and no other calls. For it each try asks twice what the client did at the key's shard.
  *
  * ferretgold_object_client_counts refuses OUT_OF_RANGE: the number is above that of clients.
  */

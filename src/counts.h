@@ -26,6 +26,12 @@ void count_lost(ferretgold_counts *it, uint64_t lost);
  * null if none does. */
 uint64_t *outcome_of(ferretgold_counts *it, uint32_t status, uint32_t inserted, bool met);
 
+/* Counts what a try to insert did, before and after which the proved client says this of the key's shard. */
+void count_done(ferretgold_counts *it, const ferretgold_stats *before, const ferretgold_stats *after);
+
+/* Where an insertion of so many turns is counted. */
+uint64_t *class_of(ferretgold_counts *it, uint64_t turns);
+
 /* Counts an insertion, before and after which the proved client says this of the key's shard. Whether it
  * met its key. */
 bool count_insertion(ferretgold_counts *it, uint32_t status, uint32_t inserted,

@@ -317,7 +317,11 @@ typedef struct insertion {
     uint32_t placing;
     bool list_full;
     bool ignored;             /* whether a release freed something */
+    bool met;                 /* whether the last try met the key */
     ferretgold_handle handle; /* but of a plain one */
+    uint64_t turns;           /* of all tries, once the first isn't all */
+    ferretgold_stats before;  /* what the client had done at the key's shard before the last try */
+    ferretgold_stats after;   /* and behind it */
 } insertion;
 
 /* What an insertion comes to, in one register. Where it isn't OK it is placed nowhere. */
@@ -338,6 +342,7 @@ static inline void ask(insertion *it, const ferretgold_key *key, void *object, u
 /* One try. */
 static inline uint32_t insert_once(object_client *client, insertion *it, way way) {
     it->list_full = false;
+    ferretgold_raw_object_stats_at(&client->session, it->key, &it->before);
     if (way == PLAIN) {
         return ferretgold_raw_object_insert(&client->session, it->key, &it->value, it->charge,
                                             it->priority, &it->placing, &it->list_full);
@@ -345,6 +350,30 @@ static inline uint32_t insert_once(object_client *client, insertion *it, way way
     return ferretgold_raw_object_insert_pinned(&client->session, it->key, &it->value, it->charge,
                                                it->priority, &it->placing, &it->list_full,
                                                &it->handle);
+}
+
+/* Counts what a try did, and notes what the insertion's outcome has to know. */
+static void note_try(object_client *client, insertion *it) {
+    ferretgold_raw_object_stats_at(&client->session, it->key, &it->after);
+    it->met = it->after.boosts != it->before.boosts;
+    it->turns += it->after.turns - it->before.turns;
+    count_done(&client->counts, &it->before, &it->after);
+}
+
+APART static void count_turned(object_client *client, const insertion *it) {
+    count_more(class_of(&client->counts, it->after.turns - it->before.turns));
+    count_done(&client->counts, &it->before, &it->after);
+}
+
+/* Counts an insertion whose first try placed the object. What was evicted, turns evicted. */
+static inline void count_placed(object_client *client, insertion *it) {
+    count_more(&client->counts.placed);
+    ferretgold_raw_object_stats_at(&client->session, it->key, &it->after);
+    if (it->after.turns != it->before.turns || RARELY(it->after.lost != it->before.lost)) {
+        count_turned(client, it);
+    } else {
+        count_more(&client->counts.by_turns[0]);
+    }
 }
 
 /* Gives the handle of an insertion back as no use. */
@@ -387,6 +416,7 @@ static uint32_t insert_again(object_cell *cell, insertion *it, way way, uint32_t
         }
         cell->in_use->untaken = true;
         status = insert_once(cell->in_use, it, way);
+        note_try(cell->in_use, it);
     }
 }
 
@@ -403,18 +433,22 @@ static void give_up_handle(object_client *client, insertion *it) {
 /* Goes on behind the first try of a call, and ends the call. */
 SLOWLY static outcome insert_further(object_cell *cell, insertion *it, way way, uint32_t status,
                                      const ferretgold_object_handle **handle) {
-    cell->in_use->untaken = true;
+    object_client *client = cell->in_use;
+    client->untaken = true;
+    it->turns = 0;
+    note_try(client, it);
     if (status != FERRETGOLD_OK || it->list_full) {
         status = insert_again(cell, it, way, status);
+        client = cell->in_use;
     }
-    object_client *client = cell->in_use;
     if (way == COLD && status == FERRETGOLD_OK) {
         give_up_handle(client, it);
     }
     const outcome all = {status, status == FERRETGOLD_OK ? it->placing : FERRETGOLD_DROPPED};
-    uint64_t *number = outcome_of(&client->counts, status, all.placing, false);
+    uint64_t *number = outcome_of(&client->counts, status, all.placing, it->met);
     if (number != NULL) {
         count_more(number);
+        count_more(class_of(&client->counts, it->turns));
     }
     if (all.placing == FERRETGOLD_DROPPED) {
         owned_ends(client->cache->owned, OBJECT_OF(it), it->value.kind);
@@ -451,6 +485,7 @@ static outcome insert_nowhere(ferretgold_object_cache *cache, const insertion *i
     uint64_t *number = outcome_of(&cache->nowhere, status, all.placing, false);
     if (number != NULL) {
         count_together(number);
+        count_together(&cache->nowhere.by_turns[0]);
     }
     if (spare != NULL) {
         *handle = shown(spare, 0, it->key, &it->value, it->charge);
@@ -490,7 +525,7 @@ QUICKLY outcome insert(ferretgold_object_cache *cache, insertion *it, way way,
     if (way == COLD) {
         unpin(client, it);
     }
-    count_more(&client->counts.placed);
+    count_placed(client, it);
     if (way == PINNED) {
         *handle = shown_of(client, it);
     }
@@ -559,12 +594,4 @@ ferretgold_status ferretgold_object_erase(ferretgold_object_cache *cache,
     it->in_use->untaken = true;
     return leave(it, ferretgold_raw_object_erase(&it->in_use->session, key,
                                                  hidden != NULL ? hidden : &ignored));
-}
-
-ferretgold_status ferretgold_object_collect(ferretgold_object_cache *cache) {
-    if (cache == NULL) {
-        return FERRETGOLD_NULL;
-    }
-    relieve_all(cache);
-    return FERRETGOLD_OK;
 }

@@ -143,3 +143,11 @@ void relieve_all(ferretgold_object_cache *cache) {
         relieve(cell_of(cache), &cache->client[number]);
     }
 }
+
+ferretgold_status ferretgold_object_collect(ferretgold_object_cache *cache) {
+    if (cache == NULL) {
+        return FERRETGOLD_NULL;
+    }
+    relieve_all(cache);
+    return FERRETGOLD_OK;
+}
