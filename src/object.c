@@ -316,12 +316,11 @@ typedef struct insertion {
     uint32_t priority;
     uint32_t placing;
     bool list_full;
-    bool ignored;             /* whether a release freed something */
+    bool freed;               /* whether giving the handle back freed something */
     bool met;                 /* whether the last try met the key */
     ferretgold_handle handle; /* but of a plain one */
     uint64_t turns;           /* of all tries, once the first isn't all */
-    ferretgold_stats before;  /* what the client had done at the key's shard before the last try */
-    ferretgold_stats after;   /* and behind it */
+    ferretgold_stats before, after; /* of its last try: what the client did at the key's shard */
 } insertion;
 
 /* What an insertion comes to, in one register. Where it isn't OK it is placed nowhere. */
@@ -360,17 +359,20 @@ static void note_try(object_client *client, insertion *it) {
     count_done(&client->counts, &it->before, &it->after);
 }
 
-APART static void count_turned(object_client *client, const insertion *it) {
-    count_more(class_of(&client->counts, it->after.turns - it->before.turns));
-    count_done(&client->counts, &it->before, &it->after);
+/* The same of an insertion whose first try placed the object, and turned the hand: runs deleters, too. */
+APART static void count_turned(object_cell *cell, const insertion *it) {
+    ferretgold_counts *counts = &cell->in_use->counts;
+    count_more(class_of(counts, it->after.turns - it->before.turns));
+    count_done(counts, &it->before, &it->after);
+    delete_gone(cell);
 }
 
-/* Counts an insertion whose first try placed the object. What was evicted, turns evicted. */
-static inline void count_placed(object_client *client, insertion *it) {
+/* The same of any whose first try placed it. An insertion frees nothing but by turns. */
+static inline void count_placed(object_cell *cell, object_client *client, insertion *it) {
     count_more(&client->counts.placed);
     ferretgold_raw_object_stats_at(&client->session, it->key, &it->after);
     if (it->after.turns != it->before.turns || RARELY(it->after.lost != it->before.lost)) {
-        count_turned(client, it);
+        count_turned(cell, it);
     } else {
         count_more(&client->counts.by_turns[0]);
     }
@@ -378,7 +380,7 @@ static inline void count_placed(object_client *client, insertion *it) {
 
 /* Gives the handle of an insertion back as no use. */
 static inline void unpin(object_client *client, insertion *it) {
-    (void)ferretgold_raw_object_release(&client->session, &it->handle, false, false, &it->ignored);
+    (void)ferretgold_raw_object_release(&client->session, &it->handle, false, false, &it->freed);
 }
 
 /* Takes back an object that stands alone: it is the newest on the list then, and the caller's. */
@@ -512,7 +514,6 @@ QUICKLY outcome insert(ferretgold_object_cache *cache, insertion *it, way way,
                        const ferretgold_object_handle **handle, const char *call) {
     object_cell *cell = cell_at_home(cache);
     object_client *client = cell->client;
-    gone gone;
     if (RARELY(!is_ready(cache, cell)) || RARELY(!entered_plainly(client, cell, 0))) {
         return insert_slowly(cache, it, way, handle, call);
     }
@@ -522,15 +523,16 @@ QUICKLY outcome insert(ferretgold_object_cache *cache, insertion *it, way way,
     if (RARELY(status != FERRETGOLD_OK) || RARELY(it->placing != FERRETGOLD_PLACED)) {
         return insert_further(cell, it, way, status, handle);
     }
+    it->freed = false;
     if (way == COLD) {
         unpin(client, it);
     }
-    count_placed(client, it);
     if (way == PINNED) {
         *handle = shown_of(client, it);
     }
-    if (RARELY(is_taken(client, &gone))) {
-        delete_gone(cell, &gone);
+    count_placed(cell, client, it);
+    if (RARELY(it->freed)) {
+        delete_gone(cell);
     }
     end_at_once(cell, client);
     return (outcome){FERRETGOLD_OK, FERRETGOLD_PLACED};

@@ -22,30 +22,37 @@ SLOWLY bool has_deleted_alone(ferretgold_object_cache *cache, object_cell *cell)
     return true;
 }
 
+void delete_gone(object_cell *it) {
+    object_client *client = it->in_use;
+    ferretgold_key key;
+    ferretgold_object_value value;
+    size_t left = 1;
+    while (left > 0
+           && ferretgold_raw_object_take_gone(&client->session, &key, &value, &left)
+                  == FERRETGOLD_OK) {
+        delete_object(client->cache, &key, &value);
+        if (RARELY(client->untaken)) {
+            run_deleters(it);
+            return;
+        }
+    }
+}
+
 void run_deleters(object_cell *it) {
     object_client *client = it->in_use;
-    gone gone;
+    ferretgold_key key;
+    ferretgold_object_value value;
     do {
-        gone.left = 1;
-        while (gone.left > 0 && is_taken(client, &gone)) {
+        size_t left = 1;
+        while (left > 0
+               && ferretgold_raw_object_take_gone(&client->session, &key, &value, &left)
+                      == FERRETGOLD_OK) {
             client->untaken = false;
-            delete_object(client->cache, &gone.key, &gone.value);
-            gone.left += client->untaken; /* by its own calls */
+            delete_object(client->cache, &key, &value);
+            left += client->untaken; /* by its own calls */
         }
     } while (it->alone != NULL && has_deleted_alone(client->cache, it));
     client->untaken = false;
-}
-
-/* It loops for what one insertion frees; what deleters' calls freed, or left, is the other's. */
-void delete_gone(object_cell *cell, gone *it) {
-    object_client *client = cell->in_use;
-    do {
-        delete_object(client->cache, &it->key, &it->value);
-        if (RARELY(client->untaken)) {
-            run_deleters(cell);
-            return;
-        }
-    } while (it->left > 0 && is_taken(client, it));
 }
 
 /* As few as each list has places for, so that each may free its entry. */

@@ -13,19 +13,12 @@ object_cell *enter_slowly(ferretgold_object_cache *cache);
 /* Begins a call that only this client can serve; null if the thread hasn't it at hand. */
 object_cell *enter_own(object_client *client);
 
-/* What a proved list gave, and how much is left there. */
-typedef struct gone {
-    size_t left;
-    ferretgold_key key;
-    ferretgold_object_value value;
-} gone;
-
 /* Runs the deleters of all that is on the list of a call's client, or is of none: what their calls
  * put there, too. */
 SLOWLY void run_deleters(object_cell *it);
 
-/* The same of an insertion, from the first on that its list gave. */
-APART void delete_gone(object_cell *cell, gone *it);
+/* The same where nothing is known but that the list may have something: of what an insertion freed. */
+APART void delete_gone(object_cell *it);
 
 /* Runs the deleter of one object of no client. Whether there was one. */
 bool has_deleted_alone(ferretgold_object_cache *cache, object_cell *cell);
@@ -81,11 +74,6 @@ QUICKLY object_cell *enter(ferretgold_object_cache *cache) {
 }
 
 /* ---- Ending ---------------------------------------------------------------------------------- */
-
-static inline bool is_taken(object_client *client, gone *it) {
-    return ferretgold_raw_object_take_gone(&client->session, &it->key, &it->value, &it->left)
-           == FERRETGOLD_OK;
-}
 
 /* Ends the first call of a thread. */
 static inline void end(object_cell *it) {

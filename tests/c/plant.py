@@ -437,7 +437,7 @@ class Trials:
         library = (here / "apart.o" if it == bug.file else self.object(it) for it in (*OBJECTS, *HANDS))
         parts = map(self.object, (COUNTED, "tests/c/heap.c"))
         self.compiled(here, "-o", here / "counts", *parts, *library, *self.libraries)
-        return self.ends(bug, 20, [here / "counts", "20000"])[0]
+        return self.ends(bug, 20, [here / "counts", "2000000"])[0]
 
     def shares(self, here, bug):
         """Whether threads find what is there in a store that they share."""
