@@ -125,6 +125,18 @@ static uint64_t by_turns(const ferretgold_counts *it) {
     return sum;
 }
 
+/* Whether one insertion more is counted, by the turns that it took. */
+static bool is_one_more(const ferretgold_counts *was, const ferretgold_counts *is) {
+    ferretgold_counts wanted = *was;
+    size_t k = 0;
+    while (k < sizeof wanted.by_turns / sizeof wanted.by_turns[0] - 1
+           && is->turns - was->turns > (k == 0 ? 0 : UINT64_C(1) << (k - 1))) {
+        k++;
+    }
+    wanted.by_turns[k] += 1;
+    return memcmp(wanted.by_turns, is->by_turns, sizeof wanted.by_turns) == 0;
+}
+
 #ifdef __SANITIZE_THREAD__
 enum { MARKS = 0 }; /* the store that stands before the library then marks nothing */
 #else
@@ -139,7 +151,6 @@ static void evictions(void) {
     ferretgold_object_cache *it = NULL;
     const ferretgold_object_handle *held = NULL;
     ferretgold_counts is, was = {0};
-    uint64_t turns = 0, unturned = 0;
     config.slots = 16, config.shards = 1, config.clients = 1, config.handles = 8, config.marks = true;
     config.capacity = ROOM * CHARGE;
     MUST(ferretgold_object_open(&config, delete_object, NULL, &it) == FERRETGOLD_OK);
@@ -150,14 +161,37 @@ static void evictions(void) {
             MUST(ferretgold_object_lookup(it, &key, &held) == FERRETGOLD_OK);
             MUST(ferretgold_object_release(it, held, true, false, NULL) == FERRETGOLD_OK);
         }
-        MUST(ferretgold_object_cache_counts(it, &is) == FERRETGOLD_OK && grew(&was, &is));
-        MUST(is.placed == k + 1 && by_turns(&is) == k + 1 && is.lost == 0);
+        MUST(ferretgold_object_cache_counts(it, &is) == FERRETGOLD_OK && is_one_more(&was, &is));
+        MUST(grew(&was, &is) && is.placed == k + 1 && by_turns(&is) == k + 1 && is.lost == 0);
         MUST(is.evicted == atomic_load(&deleted) && is.freed == CHARGE * is.evicted);
-        MUST((is.turns == turns) == (is.by_turns[0] == unturned + 1));
-        turns = is.turns, unturned = is.by_turns[0];
     }
     MUST(is.evicted >= ENTRIES - ROOM - 1 && is.turns > 0 && is.by_turns[0] >= ROOM);
     MUST(is.evicted_hit >= 8 * MARKS && is.evicted_hit <= 10 * MARKS && is.hits == 10);
+    MUST(ferretgold_object_close(it) == FERRETGOLD_OK);
+    MUST(atomic_exchange(&deleted, 0) == ENTRIES);
+}
+
+/* One that is tried again, since its list was full, and refused in the end: it counts once, with the turns
+ * of all tries. */
+static void tries(void) {
+    enum { ENTRIES = 40, TRIES = 4 };
+    ferretgold_object_config config = FERRETGOLD_OBJECT_CONFIG;
+    ferretgold_object_cache *it = NULL;
+    ferretgold_counts is, was;
+    config.slots = 64, config.shards = 1, config.clients = 1, config.handles = 2, config.strict = true;
+    config.gone = 4, config.capacity = ENTRIES, config.seed = 1;
+    MUST(ferretgold_object_open(&config, delete_object, NULL, &it) == FERRETGOLD_OK);
+    for (uint64_t k = 0; k < ENTRIES; k++) {
+        const ferretgold_key key = {k, 2};
+        MUST(ferretgold_object_put(it, &key, NULL, 0, 1, FERRETGOLD_BOTTOM));
+    }
+    const ferretgold_key large = {ENTRIES, 2};
+    MUST(ferretgold_object_cache_counts(it, &was) == FERRETGOLD_OK && was.placed == ENTRIES);
+    MUST(ferretgold_object_insert(it, &large, NULL, 0, ENTRIES, FERRETGOLD_LOW, NULL)
+         == FERRETGOLD_CAPACITY_FULL);
+    MUST(ferretgold_object_cache_counts(it, &is) == FERRETGOLD_OK && is_one_more(&was, &is));
+    MUST(is.refused == 1 && is.turns >= was.turns + TRIES && is.placed == ENTRIES);
+    MUST(is.evicted > 4 && is.evicted == atomic_load(&deleted) && is.freed == is.evicted);
     MUST(ferretgold_object_close(it) == FERRETGOLD_OK);
     MUST(atomic_exchange(&deleted, 0) == ENTRIES);
 }
@@ -235,6 +269,7 @@ int main(int count, char **words) {
     config.gone = 4, config.capacity = 300, config.seed = 1;
     rows();
     evictions();
+    tries();
     MUST(ferretgold_object_open(&config, delete_object, NULL, &cache) == FERRETGOLD_OK);
     for (uint64_t k = 0; k < WORKERS + READERS; k++) {
         const bool works = k < WORKERS;
