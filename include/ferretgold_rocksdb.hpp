@@ -106,13 +106,19 @@ class deleter_kinds {
         table_[NOTHING].store(delete_nothing);
     }
 
-    // The kind of a deleter, which gets one if it has none; UNKNOWN where all are taken.
-    std::uint16_t of(deleter it) noexcept {
+    // The kind of a deleter where it is looked for first; else UNKNOWN.
+    std::uint16_t at_once(deleter it) const noexcept {
         if (it == nullptr) {
             return NOTHING;
         }
         const std::uint16_t kind = first_of(it);
-        return called(kind) == it ? kind : further(it);
+        return called(kind) == it ? kind : UNKNOWN;
+    }
+
+    // The kind of any, which gets one if it has none; UNKNOWN where all are taken.
+    std::uint16_t of(deleter it) noexcept {
+        const std::uint16_t kind = place_of(it);
+        return kind != UNKNOWN && called(kind) == it ? kind : added(it);
     }
 
     // The deleter of a kind, or null.
@@ -147,12 +153,6 @@ class deleter_kinds {
             }
         }
         return UNKNOWN;
-    }
-
-    // The kind of one that isn't where it is looked for first.
-    [[gnu::noinline, gnu::cold]] std::uint16_t further(deleter it) noexcept {
-        const std::uint16_t kind = place_of(it);
-        return kind != UNKNOWN && called(kind) == it ? kind : added(it);
     }
 
     std::uint16_t added(deleter it) noexcept {
@@ -277,14 +277,10 @@ class rocksdb_cache final : public rocksdb::Cache {
         if (is_unfit(key, value, charge)) {
             return refusal(key, value, charge);
         }
-        const std::uint16_t kind = deleters_.of(deleter);
-        if (kind == deleter_kinds::UNKNOWN) {
-            return refusal(key, value, charge);
-        }
-        const offer it{deleter, value, static_cast<std::uint32_t>(charge + (charge == 0)), kind,
-                       key_of(key)};
-        return handle != nullptr ? inserted_with(it, priority, handle)
-                                 : inserted_without(it, priority);
+        const std::uint16_t kind = deleters_.at_once(deleter);
+        return kind == deleter_kinds::UNKNOWN
+                   ? inserted_slowly(key, value, charge, deleter, handle, priority)
+                   : inserted(key, value, charge, deleter, kind, handle, priority);
     }
 
     Handle *Lookup(const rocksdb::Slice &key, rocksdb::Statistics * = nullptr) override {
@@ -406,12 +402,11 @@ class rocksdb_cache final : public rocksdb::Cache {
     }
 
   private:
-    // What is to be inserted. It is in memory, as the key has to be, so that a call keeps little else.
+    // What goes to its deleter if it isn't placed. It is in memory, as the key has to be, so that a call
+    // keeps little else.
     struct offer {
         DeleterFn deleter;
         void *value;
-        std::uint32_t charge;
-        std::uint16_t kind;
         ferretgold_key key;
     };
 
@@ -495,10 +490,30 @@ class rocksdb_cache final : public rocksdb::Cache {
         return priority == Priority::HIGH ? FERRETGOLD_LOW : FERRETGOLD_BOTTOM;
     }
 
-    rocksdb::Status inserted_with(const offer &it, Priority priority, Handle **handle) {
+    // Where the deleter's kind isn't found at once, so that others keep nothing for that.
+    [[gnu::noinline, gnu::cold]] rocksdb::Status
+    inserted_slowly(const rocksdb::Slice &key, void *value, std::size_t charge, DeleterFn deleter,
+                    Handle **handle, Priority priority) {
+        const std::uint16_t kind = deleters_.of(deleter);
+        return kind == deleter_kinds::UNKNOWN
+                   ? refusal(key, value, charge)
+                   : inserted(key, value, charge, deleter, kind, handle, priority);
+    }
+
+    rocksdb::Status inserted(const rocksdb::Slice &key, void *value, std::size_t charge,
+                             DeleterFn deleter, std::uint16_t kind, Handle **handle,
+                             Priority priority) {
+        const offer it{deleter, value, key_of(key)};
+        const auto charged = static_cast<std::uint32_t>(charge + (charge == 0));
+        return handle != nullptr ? inserted_with(it, kind, charged, priority, handle)
+                                 : inserted_without(it, kind, charged, priority);
+    }
+
+    rocksdb::Status inserted_with(const offer &it, std::uint16_t kind, std::uint32_t charge,
+                                  Priority priority, Handle **handle) {
         ferretgold_inserted inserted = FERRETGOLD_PLACED;
         const ferretgold_object_handle *held = nullptr;
-        if (ferretgold_object_insert_pinned(cache_, &it.key, it.value, it.kind, it.charge,
+        if (ferretgold_object_insert_pinned(cache_, &it.key, it.value, kind, charge,
                                             rank_of(priority), &inserted, &held)
             != FERRETGOLD_OK) {
             return rocksdb::Status::MemoryLimit("the cache is full, or all its handles are out");
@@ -509,9 +524,9 @@ class rocksdb_cache final : public rocksdb::Cache {
     }
 
     // Also what finds no place, or is refused, is the cache's, which deletes it.
-    rocksdb::Status inserted_without(const offer &it, Priority priority) {
-        if (!ferretgold_object_put(cache_, &it.key, it.value, it.kind, it.charge,
-                                   rank_of(priority))) {
+    rocksdb::Status inserted_without(const offer &it, std::uint16_t kind, std::uint32_t charge,
+                                     Priority priority) {
+        if (!ferretgold_object_put(cache_, &it.key, it.value, kind, charge, rank_of(priority))) {
             drop(it);
         }
         return rocksdb::Status::OK();
