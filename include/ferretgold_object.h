@@ -142,7 +142,7 @@ typedef struct ferretgold_object_cache ferretgold_object_cache;
 /*
  * How many bytes a cache of this configuration allocates:
  *     shards * (272 + slots * 64) + 6640
- *     + clients * (1320 + 72 * shards + 192 * handles + 24 * gone)
+ *     + clients * (1384 + 72 * shards + 192 * handles + 24 * gone)
  * A shard's table is rounded up as ferretgold_memory says. The checking library takes more. 0 where
  * ferretgold_object_config_check refuses.
  */
@@ -235,7 +235,7 @@ ferretgold_status ferretgold_object_release(ferretgold_object_cache *cache,
                                             const ferretgold_object_handle *handle, bool useful,
                                             bool erase_if_last, bool *freed);
 
-/* The same, and returns whether this call freed an entry. No pointer is null. */
+/* The same, and returns whether this call freed an entry. Only the handle may be null. */
 bool ferretgold_object_give_back(ferretgold_object_cache *cache,
                                  const ferretgold_object_handle *handle, bool useful,
                                  bool erase_if_last);
@@ -310,8 +310,8 @@ ferretgold_status ferretgold_object_occupancy(ferretgold_object_cache *cache, ui
  * client, the last one counts it; those for which none was to be had are in the sum, and under the number
  * that is as many as there are clients. A walk's handles and insertions' are no hits.
  *
- * Proved clients of objects tell no statistics: `dropped` and `standalone` have those that met their key,
- * and there, evicted, evicted_hit, freed, turns, lost and by_turns are 0.
+ * An insertion that is tried again counts once, with the turns and evictions of each try. `lost` has what
+ * insertions lost, and no other calls. For it each try asks twice what the client did at the key's shard.
  *
  * ferretgold_object_client_counts refuses OUT_OF_RANGE: the number is above that of clients.
  */

@@ -92,7 +92,7 @@ namespace ferretgold {
 
 // ---- RocksDB's deleters ------------------------------------------------------------------------
 
-// The kinds of a cache's objects: each deleter by its place in a table, which is found by its
+// The kinds of a cache's objects: each deleter's is its place in a table, which is found by its
 // address. Places are filled under a lock, and never change.
 class deleter_kinds {
   public:
@@ -101,65 +101,70 @@ class deleter_kinds {
     static constexpr std::uint16_t NOTHING = 1; // what has no deleter
     static constexpr std::uint16_t UNKNOWN = UINT16_MAX;
 
-    // The kind of a deleter, which gets one if it has none; UNKNOWN where all are taken.
-    std::uint16_t of(deleter it) noexcept {
+    deleter_kinds() noexcept {
+        table_[BALLAST].store(delete_nothing);
+        table_[NOTHING].store(delete_nothing);
+    }
+
+    // The kind of a deleter where it is looked for first; else UNKNOWN.
+    std::uint16_t at_once(deleter it) const noexcept {
         if (it == nullptr) {
             return NOTHING;
         }
-        const std::size_t place = first_of(it);
-        return table_[place].load(std::memory_order_acquire) == it ? kind_at(place) : further(it);
+        const std::uint16_t kind = first_of(it);
+        return called(kind) == it ? kind : UNKNOWN;
+    }
+
+    // The kind of any, which gets one if it has none; UNKNOWN where all are taken.
+    std::uint16_t of(deleter it) noexcept {
+        const std::uint16_t kind = place_of(it);
+        return kind != UNKNOWN && called(kind) == it ? kind : added(it);
     }
 
     // The deleter of a kind, or null.
     deleter operator[](std::uint16_t kind) const noexcept {
-        return kind < FIRST ? nullptr : table_[kind - FIRST].load(std::memory_order_acquire);
+        return kind < FIRST ? nullptr : called(kind);
+    }
+
+    // What is called for an object of a kind.
+    deleter called(std::uint16_t kind) const noexcept {
+        return table_[kind].load(std::memory_order_acquire);
     }
 
   private:
     static constexpr std::uint16_t FIRST = 2;
-    static constexpr std::size_t MOST = 4096;
+    static constexpr std::uint16_t MOST = 4096;
 
-    static std::uint16_t kind_at(std::size_t place) noexcept {
-        return static_cast<std::uint16_t>(FIRST + place);
-    }
+    static void delete_nothing(const rocksdb::Slice &, void *) {}
 
     // Where a deleter is looked for first.
-    static std::size_t first_of(deleter it) noexcept {
+    static std::uint16_t first_of(deleter it) noexcept {
         const auto address = static_cast<std::uint64_t>(reinterpret_cast<std::uintptr_t>(it));
-        return static_cast<std::size_t>(address * UINT64_C(0x9e3779b97f4a7c15) >> 52);
+        return static_cast<std::uint16_t>(FIRST + (address * UINT64_C(0x9e3779b97f4a7c15) >> 52));
     }
 
-    // Where it is, or could be; MOST if it is nowhere, and all places are taken.
-    std::size_t place_of(deleter it) const noexcept {
-        for (std::size_t n = 0; n < MOST; n++) {
-            const std::size_t place = (first_of(it) + n) % MOST;
-            const deleter there = table_[place].load(std::memory_order_acquire);
+    // Where it is, or could be; UNKNOWN if it is nowhere, and all places are taken.
+    std::uint16_t place_of(deleter it) const noexcept {
+        for (std::uint32_t n = 0; n < MOST; n++) {
+            const auto kind = static_cast<std::uint16_t>(FIRST + (first_of(it) - FIRST + n) % MOST);
+            const deleter there = called(kind);
             if (there == it || there == nullptr) {
-                return place;
+                return kind;
             }
         }
-        return MOST;
-    }
-
-    // The kind of one that isn't where it is looked for first.
-    [[gnu::noinline, gnu::cold]] std::uint16_t further(deleter it) noexcept {
-        const std::size_t place = place_of(it);
-        return place != MOST && table_[place].load(std::memory_order_acquire) == it
-                   ? kind_at(place)
-                   : added(it);
+        return UNKNOWN;
     }
 
     std::uint16_t added(deleter it) noexcept {
         const std::lock_guard<std::mutex> lock(filling_);
-        const std::size_t place = place_of(it);
-        if (place == MOST) {
-            return UNKNOWN;
+        const std::uint16_t kind = place_of(it);
+        if (kind != UNKNOWN) {
+            table_[kind].store(it, std::memory_order_release);
         }
-        table_[place].store(it, std::memory_order_release);
-        return kind_at(place);
+        return kind;
     }
 
-    std::array<std::atomic<deleter>, MOST> table_{};
+    std::array<std::atomic<deleter>, FIRST + MOST> table_{};
     std::mutex filling_;
 };
 
@@ -269,17 +274,13 @@ class rocksdb_cache final : public rocksdb::Cache {
         if (handle != nullptr) {
             *handle = nullptr;
         }
-        if (key.size() != sizeof(ferretgold_key) || charge > UINT32_MAX || is_high(value)) {
-            return refusal(key, charge);
+        if (is_unfit(key, value, charge)) {
+            return refusal(key, value, charge);
         }
-        const std::uint16_t kind = deleters_.of(deleter);
-        if (kind == deleter_kinds::UNKNOWN) {
-            return rocksdb::Status::NotSupported("a cache knows 4,096 deleters");
-        }
-        const ferretgold_key at = key_of(key);
-        const object it{value, kind, static_cast<std::uint32_t>(charge + (charge == 0))};
-        return handle != nullptr ? inserted_with(at, it, priority, handle)
-                                 : inserted_without(at, it, priority);
+        const std::uint16_t kind = deleters_.at_once(deleter);
+        return kind == deleter_kinds::UNKNOWN
+                   ? inserted_slowly(key, value, charge, deleter, handle, priority)
+                   : inserted(key, value, charge, deleter, kind, handle, priority);
     }
 
     Handle *Lookup(const rocksdb::Slice &key, rocksdb::Statistics * = nullptr) override {
@@ -292,10 +293,8 @@ class rocksdb_cache final : public rocksdb::Cache {
         return handle != nullptr && ferretgold_object_ref(cache_, shown(handle)) == FERRETGOLD_OK;
     }
 
+    // Of null it does nothing.
     bool Release(Handle *handle, bool useful, bool erase_if_last_ref) override {
-        if (handle == nullptr) {
-            return false;
-        }
         return is_of_insertion(handle) ? given_back(shown(handle), false, erase_if_last_ref)
                                        : given_back(unmarked(handle), useful, erase_if_last_ref);
     }
@@ -403,10 +402,12 @@ class rocksdb_cache final : public rocksdb::Cache {
     }
 
   private:
-    struct object {
+    // What goes to its deleter if it isn't placed. It is in memory, as the key has to be, so that a call
+    // keeps little else.
+    struct offer {
+        DeleterFn deleter;
         void *value;
-        std::uint16_t kind;
-        std::uint32_t charge;
+        ferretgold_key key;
     };
 
     explicit rocksdb_cache(const rocksdb::HyperClockCacheOptions &options)
@@ -424,10 +425,7 @@ class rocksdb_cache final : public rocksdb::Cache {
 
     static void deleted(void *context, const ferretgold_key *key, void *value,
                         std::uint16_t kind) noexcept {
-        const DeleterFn deleter = static_cast<rocksdb_cache *>(context)->deleters_[kind];
-        if (deleter != nullptr) {
-            deleter(slice_of(*key), value);
-        }
+        static_cast<rocksdb_cache *>(context)->deleters_.called(kind)(slice_of(*key), value);
     }
 
     // ---- Keys and handles ----
@@ -470,17 +468,21 @@ class rocksdb_cache final : public rocksdb::Cache {
 
     // ---- Insertions ----
 
-    static bool is_high(const void *value) noexcept {
-        return static_cast<std::uint64_t>(reinterpret_cast<std::uintptr_t>(value)) >> 48 != 0;
+    // Whether an insertion isn't tried: of another key, a charge from 2^32 on, a value from 2^48 on.
+    static bool is_unfit(const rocksdb::Slice &key, const void *value, std::size_t charge) noexcept {
+        const std::uint64_t address = reinterpret_cast<std::uintptr_t>(value);
+        return key.size() != sizeof(ferretgold_key) || (address >> 16 | charge) >> 32 != 0;
     }
 
-    // Why an insertion is refused before it is tried.
-    [[gnu::noinline, gnu::cold]] static rocksdb::Status refusal(const rocksdb::Slice &key,
-                                                                std::size_t charge) {
-        return rocksdb::Status::NotSupported(
-            key.size() != sizeof(ferretgold_key) ? "keys have 16 bytes"
-            : charge > UINT32_MAX                ? "a charge is below 2^32"
-                                                 : "a value lies below 2^48");
+    // Why it isn't.
+    [[gnu::noinline, gnu::cold]] static rocksdb::Status
+    refusal(const rocksdb::Slice &key, const void *value, std::size_t charge) {
+        return rocksdb::Status::NotSupported(!is_unfit(key, value, charge)
+                                                 ? "a cache knows 4,096 deleters"
+                                             : key.size() != sizeof(ferretgold_key)
+                                                 ? "keys have 16 bytes"
+                                             : charge > UINT32_MAX ? "a charge is below 2^32"
+                                                                   : "a value lies below 2^48");
     }
 
     // Where the handle is given back as no use, a new entry begins one below this rank.
@@ -488,11 +490,30 @@ class rocksdb_cache final : public rocksdb::Cache {
         return priority == Priority::HIGH ? FERRETGOLD_LOW : FERRETGOLD_BOTTOM;
     }
 
-    rocksdb::Status inserted_with(const ferretgold_key &key, const object &it, Priority priority,
-                                  Handle **handle) {
+    // Where the deleter's kind isn't found at once, so that others keep nothing for that.
+    [[gnu::noinline, gnu::cold]] rocksdb::Status
+    inserted_slowly(const rocksdb::Slice &key, void *value, std::size_t charge, DeleterFn deleter,
+                    Handle **handle, Priority priority) {
+        const std::uint16_t kind = deleters_.of(deleter);
+        return kind == deleter_kinds::UNKNOWN
+                   ? refusal(key, value, charge)
+                   : inserted(key, value, charge, deleter, kind, handle, priority);
+    }
+
+    rocksdb::Status inserted(const rocksdb::Slice &key, void *value, std::size_t charge,
+                             DeleterFn deleter, std::uint16_t kind, Handle **handle,
+                             Priority priority) {
+        const offer it{deleter, value, key_of(key)};
+        const auto charged = static_cast<std::uint32_t>(charge + (charge == 0));
+        return handle != nullptr ? inserted_with(it, kind, charged, priority, handle)
+                                 : inserted_without(it, kind, charged, priority);
+    }
+
+    rocksdb::Status inserted_with(const offer &it, std::uint16_t kind, std::uint32_t charge,
+                                  Priority priority, Handle **handle) {
         ferretgold_inserted inserted = FERRETGOLD_PLACED;
         const ferretgold_object_handle *held = nullptr;
-        if (ferretgold_object_insert_pinned(cache_, &key, it.value, it.kind, it.charge,
+        if (ferretgold_object_insert_pinned(cache_, &it.key, it.value, kind, charge,
                                             rank_of(priority), &inserted, &held)
             != FERRETGOLD_OK) {
             return rocksdb::Status::MemoryLimit("the cache is full, or all its handles are out");
@@ -503,12 +524,18 @@ class rocksdb_cache final : public rocksdb::Cache {
     }
 
     // Also what finds no place, or is refused, is the cache's, which deletes it.
-    rocksdb::Status inserted_without(const ferretgold_key &key, const object &it,
+    rocksdb::Status inserted_without(const offer &it, std::uint16_t kind, std::uint32_t charge,
                                      Priority priority) {
-        if (!ferretgold_object_put(cache_, &key, it.value, it.kind, it.charge, rank_of(priority))) {
-            deleted(this, &key, it.value, it.kind);
+        if (!ferretgold_object_put(cache_, &it.key, it.value, kind, charge, rank_of(priority))) {
+            drop(it);
         }
         return rocksdb::Status::OK();
+    }
+
+    [[gnu::noinline, gnu::cold]] static void drop(const offer &it) {
+        if (it.deleter != nullptr) {
+            it.deleter(slice_of(it.key), it.value);
+        }
     }
 
     // ---- Walks ----

@@ -19,8 +19,8 @@ static void rise(uint64_t *number, uint64_t before, uint64_t after) {
     tell(number, seen(number) + (after - before));
 }
 
-static void count_done(ferretgold_counts *it, const ferretgold_stats *before,
-                       const ferretgold_stats *after) {
+void count_done(ferretgold_counts *it, const ferretgold_stats *before,
+                const ferretgold_stats *after) {
     rise(&it->evicted, before->evicted, after->evicted);
     rise(&it->evicted_hit, before->evicted_hit, after->evicted_hit);
     rise(&it->freed, before->freed, after->freed);
@@ -28,8 +28,7 @@ static void count_done(ferretgold_counts *it, const ferretgold_stats *before,
     rise(&it->lost, before->lost, after->lost);
 }
 
-/* Where an insertion of so many turns is counted. */
-static uint64_t *class_of(ferretgold_counts *it, uint64_t turns) {
+uint64_t *class_of(ferretgold_counts *it, uint64_t turns) {
     const uint32_t last = sizeof it->by_turns / sizeof it->by_turns[0] - 1;
     uint32_t k = 0;
     while (k < last && turns > UINT64_C(1) << k >> 1) {

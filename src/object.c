@@ -22,7 +22,7 @@ static inline const ferretgold_object_handle *shown(record *it, uint64_t serial,
     it->shows.charge = (uint32_t)charge;
     it->shows.kind = value->kind;
     it->handle.serial = serial;
-    atomic_store_explicit(&it->references, 1, memory_order_relaxed);
+    atomic_store_explicit(&it->more, 0, memory_order_relaxed);
     return &it->shows;
 }
 
@@ -84,17 +84,23 @@ SLOWLY static found looked_up_slowly(ferretgold_object_cache *cache, ferretgold_
     return all;
 }
 
+/* The same once the thread's own client has refused the key that it holds. */
+SLOWLY static found refused_by(const object_client *client) {
+    return looked_up_slowly(client->cache, client->held.key);
+}
+
 /* By the thread's own client at once, if nothing is to be done before. */
-QUICKLY found looked_up(ferretgold_object_cache *cache, ferretgold_held_object *held) {
+QUICKLY found looked_up(ferretgold_object_cache *cache, ferretgold_key key) {
     const object_cell *cell = cell_at_home(cache);
     object_client *client = cell->client;
-    if (RARELY(!is_ready(cache, cell)) || RARELY(!entered_plainly(client, cell))) {
-        return looked_up_slowly(cache, held->key);
+    if (RARELY(!is_ready(cache, cell)) || RARELY(!entered_plainly(client, cell, 0))) {
+        return looked_up_slowly(cache, key);
     }
     found all = {FERRETGOLD_MISS, NULL};
-    all.status = looked_up_by(client, held, &all.handle);
+    client->held.key = key;
+    all.status = looked_up_by(client, &client->held, &all.handle);
     client_left(client);
-    return RARELY(all.status > FERRETGOLD_MISS) ? looked_up_slowly(client->cache, held->key) : all;
+    return RARELY(all.status > FERRETGOLD_MISS) ? refused_by(client) : all;
 }
 
 ferretgold_status ferretgold_object_lookup(ferretgold_object_cache *cache,
@@ -103,12 +109,10 @@ ferretgold_status ferretgold_object_lookup(ferretgold_object_cache *cache,
     if (RARELY(cache == NULL) || RARELY(key == NULL)) {
         return FERRETGOLD_NULL;
     }
-    ferretgold_held_object held;
-    held.key = *key;
     if (RARELY(handle == NULL)) {
         return FERRETGOLD_NULL;
     }
-    const found all = looked_up(cache, &held);
+    const found all = looked_up(cache, *key);
     if (all.handle != NULL) {
         *handle = all.handle;
     }
@@ -117,9 +121,7 @@ ferretgold_status ferretgold_object_lookup(ferretgold_object_cache *cache,
 
 const ferretgold_object_handle *ferretgold_object_find(ferretgold_object_cache *cache,
                                                        ferretgold_key key) {
-    ferretgold_held_object held;
-    held.key = key;
-    return looked_up(cache, &held).handle;
+    return looked_up(cache, key).handle;
 }
 
 ferretgold_status ferretgold_object_pin_at(ferretgold_object_cache *cache, uint32_t shard,
@@ -156,10 +158,10 @@ ferretgold_status ferretgold_object_ref(ferretgold_object_cache *cache,
     }
     record *it = record_of(handle);
     if (it->handle.cache != cache->number
-        || atomic_load_explicit(&it->references, memory_order_relaxed) == 0) {
+        || atomic_load_explicit(&it->more, memory_order_relaxed) == GIVEN_BACK) {
         return FERRETGOLD_NO_HANDLE;
     }
-    atomic_fetch_add_explicit(&it->references, 1, memory_order_relaxed);
+    atomic_fetch_add_explicit(&it->more, 1, memory_order_relaxed);
     return FERRETGOLD_OK;
 }
 
@@ -176,7 +178,7 @@ static void leave_alone(object_cell *cell, record *it) {
  * also where there is no client for it. */
 static void end_alone(ferretgold_object_cache *cache, record *it) {
     object_cell *cell = cell_of(cache);
-    if (cell != NULL && cell->depth > 0) {
+    if (cell != NULL && is_in_call(cell)) {
         leave_alone(cell, it);
         return;
     }
@@ -233,53 +235,49 @@ static let_go given_back(ferretgold_object_cache *cache, record *it, bool useful
 }
 
 /* Ends a reference of a handle, also where there are more of them, or the client is another. */
-static let_go released_anyhow(ferretgold_object_cache *cache, record *it, bool useful,
-                              bool erase_if_last) {
-    const unsigned seen = atomic_load_explicit(&it->references, memory_order_acquire);
-    if (it->handle.cache != cache->number || seen == 0) {
+SLOWLY static let_go released_slowly(ferretgold_object_cache *cache, record *it, bool useful,
+                                     bool erase_if_last) {
+    if (it == NULL) {
+        return (let_go){FERRETGOLD_NULL, false};
+    }
+    const unsigned seen = atomic_load_explicit(&it->more, memory_order_acquire);
+    if (it->handle.cache != cache->number || seen == GIVEN_BACK) {
         return (let_go){FERRETGOLD_NO_HANDLE, false};
     }
-    if (seen > 1 && atomic_fetch_sub(&it->references, 1) > 1) {
+    if (seen > 0 && atomic_fetch_sub(&it->more, 1) > 0) {
         return (let_go){FERRETGOLD_OK, false};
     }
-    atomic_store_explicit(&it->references, 0, memory_order_relaxed);
+    atomic_store_explicit(&it->more, GIVEN_BACK, memory_order_relaxed);
     return given_back(cache, it, useful, erase_if_last);
-}
-
-SLOWLY static let_go released_slowly(ferretgold_object_cache *cache, record *it, bool useful,
-                                     bool erase_if_last, bool *freed) {
-    const let_go all = released_anyhow(cache, it, useful, erase_if_last);
-    if (freed != NULL && all.status == FERRETGOLD_OK) {
-        *freed = all.freed;
-    }
-    return all;
 }
 
 /* The end of one that began at once and freed an entry. */
 SLOWLY static let_go left_with_deleters(object_client *client) {
     object_cell *it = cell_of(client->cache);
     begin(it, client);
+    client->freed = false;
     client->untaken = true;
     (void)leave(it, FERRETGOLD_OK);
     return (let_go){FERRETGOLD_OK, true};
 }
 
-/* By the thread's own client at once, if nothing is to be done before. `freed` may be null. */
+/* By the thread's own client at once, if nothing is to be done before. The record may be null, which
+ * no client has. */
 QUICKLY let_go released(ferretgold_object_cache *cache, record *it, bool useful,
-                        bool erase_if_last, bool *freed) {
+                        bool erase_if_last) {
     const object_cell *cell = cell_at_home(cache);
     object_client *client = cell->client;
-    if (RARELY(atomic_load_explicit(&it->references, memory_order_acquire) != 1)
-        || RARELY(!is_ready(cache, cell)) || RARELY(!is_of(client, it))
-        || RARELY(!entered_plainly(client, cell))) {
-        return released_slowly(cache, it, useful, erase_if_last, freed);
+    if (RARELY(!is_ready(cache, cell)) || RARELY(!is_of(client, it))) {
+        return released_slowly(cache, it, useful, erase_if_last);
     }
-    bool *told = freed != NULL ? freed : &client->freed;
-    atomic_store_explicit(&it->references, 0, memory_order_relaxed);
-    *told = false;
+    if (RARELY(!entered_plainly(client, cell,
+                                   atomic_load_explicit(&it->more, memory_order_acquire)))) {
+        return released_slowly(client->cache, it, useful, erase_if_last);
+    }
+    atomic_store_explicit(&it->more, GIVEN_BACK, memory_order_relaxed);
     const uint32_t status = ferretgold_raw_object_release(&client->session, &it->handle, useful,
-                                                          erase_if_last, told);
-    if (RARELY(*told)) {
+                                                          erase_if_last, &client->freed);
+    if (RARELY(client->freed)) {
         return left_with_deleters(client);
     }
     client_left(client);
@@ -289,17 +287,20 @@ QUICKLY let_go released(ferretgold_object_cache *cache, record *it, bool useful,
 ferretgold_status ferretgold_object_release(ferretgold_object_cache *cache,
                                             const ferretgold_object_handle *handle, bool useful,
                                             bool erase_if_last, bool *freed) {
-    if (RARELY(cache == NULL) || RARELY(handle == NULL)) {
+    if (RARELY(cache == NULL)) {
         return FERRETGOLD_NULL;
     }
-    record *it = record_of(handle);
-    return (ferretgold_status)released(cache, it, useful, erase_if_last, freed).status;
+    const let_go all = released(cache, record_of(handle), useful, erase_if_last);
+    if (freed != NULL && all.status == FERRETGOLD_OK) {
+        *freed = all.freed;
+    }
+    return (ferretgold_status)all.status;
 }
 
 bool ferretgold_object_give_back(ferretgold_object_cache *cache,
                                  const ferretgold_object_handle *handle, bool useful,
                                  bool erase_if_last) {
-    return released(cache, record_of(handle), useful, erase_if_last, NULL).freed;
+    return released(cache, record_of(handle), useful, erase_if_last).freed;
 }
 
 /* ---- Inserting ------------------------------------------------------------------------------- */
@@ -315,7 +316,11 @@ typedef struct insertion {
     uint32_t priority;
     uint32_t placing;
     bool list_full;
+    bool freed;               /* whether giving the handle back freed something */
+    bool met;                 /* whether the last try met the key */
     ferretgold_handle handle; /* but of a plain one */
+    uint64_t turns;           /* of all tries, once the first isn't all */
+    ferretgold_stats before, after; /* of its last try: what the client did at the key's shard */
 } insertion;
 
 /* What an insertion comes to, in one register. Where it isn't OK it is placed nowhere. */
@@ -336,6 +341,7 @@ static inline void ask(insertion *it, const ferretgold_key *key, void *object, u
 /* One try. */
 static inline uint32_t insert_once(object_client *client, insertion *it, way way) {
     it->list_full = false;
+    ferretgold_raw_object_stats_at(&client->session, it->key, &it->before);
     if (way == PLAIN) {
         return ferretgold_raw_object_insert(&client->session, it->key, &it->value, it->charge,
                                             it->priority, &it->placing, &it->list_full);
@@ -345,14 +351,40 @@ static inline uint32_t insert_once(object_client *client, insertion *it, way way
                                                &it->handle);
 }
 
+/* Counts what a try did, and notes what the insertion's outcome has to know. */
+static void note_try(object_client *client, insertion *it) {
+    ferretgold_raw_object_stats_at(&client->session, it->key, &it->after);
+    it->met = it->after.boosts != it->before.boosts;
+    it->turns += it->after.turns - it->before.turns;
+    count_done(&client->counts, &it->before, &it->after);
+}
+
+/* The same of an insertion whose first try placed the object, and turned the hand: runs deleters, too. */
+APART static void count_turned(object_cell *cell, const insertion *it) {
+    ferretgold_counts *counts = &cell->in_use->counts;
+    count_more(class_of(counts, it->after.turns - it->before.turns));
+    count_done(counts, &it->before, &it->after);
+    delete_gone(cell);
+}
+
+/* The same of any whose first try placed it. An insertion frees nothing but by turns. */
+static inline void count_placed(object_cell *cell, object_client *client, insertion *it) {
+    count_more(&client->counts.placed);
+    ferretgold_raw_object_stats_at(&client->session, it->key, &it->after);
+    if (it->after.turns != it->before.turns || RARELY(it->after.lost != it->before.lost)) {
+        count_turned(cell, it);
+    } else {
+        count_more(&client->counts.by_turns[0]);
+    }
+}
+
 /* Gives the handle of an insertion back as no use. */
-static inline void unpin(object_client *client, const insertion *it) {
-    bool freed = false;
-    (void)ferretgold_raw_object_release(&client->session, &it->handle, false, false, &freed);
+static inline void unpin(object_client *client, insertion *it) {
+    (void)ferretgold_raw_object_release(&client->session, &it->handle, false, false, &it->freed);
 }
 
 /* Takes back an object that stands alone: it is the newest on the list then, and the caller's. */
-static void take_back(object_client *client, const insertion *it) {
+static void take_back(object_client *client, insertion *it) {
     ferretgold_key key;
     ferretgold_object_value value;
     size_t left;
@@ -386,6 +418,7 @@ static uint32_t insert_again(object_cell *cell, insertion *it, way way, uint32_t
         }
         cell->in_use->untaken = true;
         status = insert_once(cell->in_use, it, way);
+        note_try(cell->in_use, it);
     }
 }
 
@@ -402,18 +435,22 @@ static void give_up_handle(object_client *client, insertion *it) {
 /* Goes on behind the first try of a call, and ends the call. */
 SLOWLY static outcome insert_further(object_cell *cell, insertion *it, way way, uint32_t status,
                                      const ferretgold_object_handle **handle) {
-    cell->in_use->untaken = true;
+    object_client *client = cell->in_use;
+    client->untaken = true;
+    it->turns = 0;
+    note_try(client, it);
     if (status != FERRETGOLD_OK || it->list_full) {
         status = insert_again(cell, it, way, status);
+        client = cell->in_use;
     }
-    object_client *client = cell->in_use;
     if (way == COLD && status == FERRETGOLD_OK) {
         give_up_handle(client, it);
     }
     const outcome all = {status, status == FERRETGOLD_OK ? it->placing : FERRETGOLD_DROPPED};
-    uint64_t *number = outcome_of(&client->counts, status, all.placing, false);
+    uint64_t *number = outcome_of(&client->counts, status, all.placing, it->met);
     if (number != NULL) {
         count_more(number);
+        count_more(class_of(&client->counts, it->turns));
     }
     if (all.placing == FERRETGOLD_DROPPED) {
         owned_ends(client->cache->owned, OBJECT_OF(it), it->value.kind);
@@ -450,6 +487,7 @@ static outcome insert_nowhere(ferretgold_object_cache *cache, const insertion *i
     uint64_t *number = outcome_of(&cache->nowhere, status, all.placing, false);
     if (number != NULL) {
         count_together(number);
+        count_together(&cache->nowhere.by_turns[0]);
     }
     if (spare != NULL) {
         *handle = shown(spare, 0, it->key, &it->value, it->charge);
@@ -476,23 +514,26 @@ QUICKLY outcome insert(ferretgold_object_cache *cache, insertion *it, way way,
                        const ferretgold_object_handle **handle, const char *call) {
     object_cell *cell = cell_at_home(cache);
     object_client *client = cell->client;
-    if (RARELY(!is_ready(cache, cell)) || RARELY(!entered_plainly(client, cell))) {
+    if (RARELY(!is_ready(cache, cell)) || RARELY(!entered_plainly(client, cell, 0))) {
         return insert_slowly(cache, it, way, handle, call);
     }
-    begin(cell, client);
+    cell->ready = 0;
     owned_begins(cache->owned, OBJECT_OF(it), it->value.kind, call);
     const uint32_t status = insert_once(client, it, way);
     if (RARELY(status != FERRETGOLD_OK) || RARELY(it->placing != FERRETGOLD_PLACED)) {
         return insert_further(cell, it, way, status, handle);
     }
+    it->freed = false;
     if (way == COLD) {
         unpin(client, it);
     }
-    count_more(&client->counts.placed);
     if (way == PINNED) {
         *handle = shown_of(client, it);
     }
-    delete_gone(cell, client);
+    count_placed(cell, client, it);
+    if (RARELY(it->freed)) {
+        delete_gone(cell);
+    }
     end_at_once(cell, client);
     return (outcome){FERRETGOLD_OK, FERRETGOLD_PLACED};
 }
@@ -555,42 +596,4 @@ ferretgold_status ferretgold_object_erase(ferretgold_object_cache *cache,
     it->in_use->untaken = true;
     return leave(it, ferretgold_raw_object_erase(&it->in_use->session, key,
                                                  hidden != NULL ? hidden : &ignored));
-}
-
-ferretgold_status ferretgold_object_collect(ferretgold_object_cache *cache) {
-    if (cache == NULL) {
-        return FERRETGOLD_NULL;
-    }
-    relieve_all(cache);
-    return FERRETGOLD_OK;
-}
-
-/* ---- Totals ---------------------------------------------------------------------------------- */
-
-/* Has a client tell one of its totals, without what waits on queues. */
-static ferretgold_status told(ferretgold_object_cache *cache,
-                              uint64_t (*total)(ferretgold_object *client), uint64_t *number) {
-    if (cache == NULL || number == NULL) {
-        return FERRETGOLD_NULL;
-    }
-    relieve_all(cache);
-    object_cell *it = enter(cache);
-    if (it == NULL) {
-        return FERRETGOLD_NO_CLIENT;
-    }
-    *number = total(&it->in_use->session);
-    return leave(it, FERRETGOLD_OK);
-}
-
-ferretgold_status ferretgold_object_usage(ferretgold_object_cache *cache, uint64_t *usage) {
-    return told(cache, ferretgold_raw_object_usage, usage);
-}
-
-ferretgold_status ferretgold_object_pinned_usage(ferretgold_object_cache *cache, uint64_t *usage) {
-    return told(cache, ferretgold_raw_object_pinned_usage, usage);
-}
-
-ferretgold_status ferretgold_object_occupancy(ferretgold_object_cache *cache,
-                                              uint64_t *occupancy) {
-    return told(cache, ferretgold_raw_object_occupancy, occupancy);
 }

@@ -13,6 +13,7 @@
 #define RARELY(what) __builtin_expect(!!(what), 0)
 #define SLOWLY __attribute__((noinline, cold))
 #define QUICKLY __attribute__((always_inline)) static inline
+#define APART __attribute__((noinline))
 
 /* What a handle points to: one cache line of its client, in the place of the proved handle's index.
  * It is filled while the client has it, and then read by any thread, until the proved handle is
@@ -21,13 +22,15 @@
 typedef struct record {
     _Alignas(LINE) ferretgold_object_handle shows;
     ferretgold_handle handle; /* the proved one */
-    atomic_uint references;   /* 0 once it was given back */
+    atomic_uint more;         /* references beside the first; GIVEN_BACK once that ended, too */
     _Atomic(uint16_t) depth;  /* how many are on the queue with this one; of a spare one the next */
     bool useful;              /* how it was given back */
     bool erase_if_last;
 } record;
 
 _Static_assert(sizeof(record) == LINE, "a record is one line");
+
+#define GIVEN_BACK UINT32_MAX
 
 /* In place of a client's number in a record that stands for an object of no client: it stands
  * alone, inserted where no client was to be had. */
@@ -40,13 +43,14 @@ typedef struct object_client {
     record *records;                /* one for each handle */
     size_t size;                    /* of these, in bytes */
     _Atomic(record *) backlog;      /* taken off the queue, and not given back yet */
-    atomic_uint claim;              /* the thread that names it, and whether somebody claims it */
+    _Atomic(uint64_t) claim;        /* the thread that names it, and whether somebody claims it */
     atomic_bool inside;             /* its thread is in a call: written by that thread */
     bool untaken;                   /* something may be on the proved list */
-    bool freed;                     /* what a proved release told */
+    bool freed;                     /* what a proved release told; false between calls */
     atomic_bool used;               /* what the checking library knows of it */
     uint32_t number;
     _Alignas(LINE) ferretgold_counts counts; /* written by who uses it, and read by any thread */
+    ferretgold_held_object held;             /* what a look-up that began at once looks for, and finds */
     _Alignas(LINE) _Atomic(record *) queue;  /* of what other threads gave back */
 } object_client;
 
@@ -70,15 +74,16 @@ struct ferretgold_object_cache {
     ferretgold_counts nowhere;               /* of calls for which no client was to be had */
 };
 
-/* What a thread knows of a cache. */
+/* What a thread knows of a cache. Where it is ready, `in_use` and `depth` are as the next call has them
+ * that begins at once. */
 typedef struct object_cell {
     uint64_t life;         /* of the cache; 0 if this cell is free */
     uint64_t ready;        /* the same between calls, if its client has no backlog; else 0 */
     object_client *client; /* that the thread names; null if it names none */
     object_client *in_use; /* by its call; null if that has none */
     record *alone;         /* objects of no client that are to be deleted */
-    uint32_t token;        /* by which the thread names the client */
-    uint32_t depth;        /* how many calls it is in: more than one from a deleter */
+    uint64_t token;        /* by which the thread names the client: as long as what it is compared with */
+    uint32_t depth;        /* unless ready, how many calls it is in: more than one from a deleter */
 } object_cell;
 
 enum { CELLS = 4 };
@@ -86,7 +91,7 @@ enum { CELLS = 4 };
 /* What a thread knows of caches. It allocates nothing, in a library that is loaded late either. */
 typedef struct object_thread {
     object_cell cell[CELLS];
-    uint32_t token;  /* the number by which it names clients */
+    uint64_t token;  /* the number by which it names clients */
     uint32_t cursor; /* where it looks for a client to borrow */
     uint32_t turn;   /* which cell goes to another cache next */
 } object_thread;
@@ -203,6 +208,11 @@ static inline void client_left(object_client *client) {
 static inline bool own_entered(object_cell *it) {
     it->in_use = it->client;
     return client_entered(it->client, it);
+}
+
+/* Whether the thread is in a call of a cell's cache. */
+static inline bool is_in_call(const object_cell *it) {
+    return it->ready == 0 && it->depth > 0;
 }
 
 static inline object_cell *cell_at_home(const ferretgold_object_cache *cache) {

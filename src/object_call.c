@@ -22,8 +22,37 @@ SLOWLY bool has_deleted_alone(ferretgold_object_cache *cache, object_cell *cell)
     return true;
 }
 
+void delete_gone(object_cell *it) {
+    object_client *client = it->in_use;
+    ferretgold_key key;
+    ferretgold_object_value value;
+    size_t left = 1;
+    while (left > 0
+           && ferretgold_raw_object_take_gone(&client->session, &key, &value, &left)
+                  == FERRETGOLD_OK) {
+        delete_object(client->cache, &key, &value);
+        if (RARELY(client->untaken)) {
+            run_deleters(it);
+            return;
+        }
+    }
+}
+
 void run_deleters(object_cell *it) {
-    delete_gone(it, it->in_use);
+    object_client *client = it->in_use;
+    ferretgold_key key;
+    ferretgold_object_value value;
+    do {
+        size_t left = 1;
+        while (left > 0
+               && ferretgold_raw_object_take_gone(&client->session, &key, &value, &left)
+                      == FERRETGOLD_OK) {
+            client->untaken = false;
+            delete_object(client->cache, &key, &value);
+            left += client->untaken; /* by its own calls */
+        }
+    } while (it->alone != NULL && has_deleted_alone(client->cache, it));
+    client->untaken = false;
 }
 
 /* As few as each list has places for, so that each may free its entry. */
@@ -58,7 +87,7 @@ SLOWLY static object_cell *entered_again(object_cell *it) {
 /* It gives a few handles back that other threads left, or all of another thread's client. */
 SLOWLY object_cell *enter_slowly(ferretgold_object_cache *cache) {
     object_cell *it = cell_of(cache);
-    if (it == NULL || it->depth > 0) {
+    if (it == NULL || is_in_call(it)) {
         return entered_again(it);
     }
     if ((it->client == NULL || !own_entered(it)) && !client_found(cache, it)) {
@@ -73,7 +102,7 @@ SLOWLY object_cell *enter_slowly(ferretgold_object_cache *cache) {
 
 object_cell *enter_own(object_client *client) {
     object_cell *it = cell_of(client->cache);
-    if (it == NULL || it->depth > 0) {
+    if (it == NULL || is_in_call(it)) {
         return it == NULL || it->in_use != client ? NULL : entered_again(it);
     }
     if (it->client != client || !own_entered(it)) {
@@ -105,7 +134,7 @@ SLOWLY bool may_retry(object_cell *it, uint32_t status, uint32_t *changes) {
 }
 
 void relieve(object_cell *it, object_client *client) {
-    if (it == NULL || it->depth > 0 || !has_returned(client)) {
+    if (it == NULL || is_in_call(it) || !has_returned(client)) {
         return;
     }
     if (client == it->client ? !own_entered(it) : !client_claimed(client)) {
@@ -120,4 +149,12 @@ void relieve_all(ferretgold_object_cache *cache) {
     for (uint32_t number = 0; number < cache->config.clients; number++) {
         relieve(cell_of(cache), &cache->client[number]);
     }
+}
+
+ferretgold_status ferretgold_object_collect(ferretgold_object_cache *cache) {
+    if (cache == NULL) {
+        return FERRETGOLD_NULL;
+    }
+    relieve_all(cache);
+    return FERRETGOLD_OK;
 }

@@ -15,7 +15,10 @@ object_cell *enter_own(object_client *client);
 
 /* Runs the deleters of all that is on the list of a call's client, or is of none: what their calls
  * put there, too. */
-void run_deleters(object_cell *it);
+SLOWLY void run_deleters(object_cell *it);
+
+/* The same where nothing is known but that the list may have something: of what an insertion freed. */
+APART void delete_gone(object_cell *it);
 
 /* Runs the deleter of one object of no client. Whether there was one. */
 bool has_deleted_alone(ferretgold_object_cache *cache, object_cell *cell);
@@ -42,17 +45,28 @@ static inline bool is_ready(const ferretgold_object_cache *cache, const object_c
     return it->ready == cache->life;
 }
 
-/* Whether the client of such a cell began a call: not where something else is to be done first. */
-static inline bool entered_plainly(object_client *client, const object_cell *it) {
-    return atomic_load_explicit(&client->queue, memory_order_relaxed) == NULL
-           && client_entered(client, it);
+/* Whether the client of such a cell began a call, as client_entered has it: not where handles wait on
+ * its queue either, or the caller has another reason, which isn't 0 then. Its claim is the token, or
+ * one more, so that one sum shows all three. */
+static inline bool entered_plainly(object_client *client, const object_cell *it,
+                                   uint64_t reason) {
+    atomic_store_explicit(&client->inside, true, memory_order_relaxed);
+    atomic_signal_fence(memory_order_seq_cst);
+    const uint64_t claim = atomic_load_explicit(&client->claim, memory_order_acquire);
+    const record *queue = atomic_load_explicit(&client->queue, memory_order_relaxed);
+    if (RARELY(claim + (uintptr_t)queue + reason != it->token)) {
+        atomic_store_explicit(&client->inside, false, memory_order_release);
+        return false;
+    }
+    client_used(client);
+    return true;
 }
 
 /* Begins a call that needs a client: the thread's cell of the cache; null if none is to be had. */
 QUICKLY object_cell *enter(ferretgold_object_cache *cache) {
     object_cell *it = cell_at_home(cache);
     object_client *client = it->client;
-    if (RARELY(!is_ready(cache, it)) || RARELY(!entered_plainly(client, it))) {
+    if (RARELY(!is_ready(cache, it)) || RARELY(!entered_plainly(client, it, 0))) {
         return enter_slowly(cache);
     }
     begin(it, client);
@@ -61,39 +75,22 @@ QUICKLY object_cell *enter(ferretgold_object_cache *cache) {
 
 /* ---- Ending ---------------------------------------------------------------------------------- */
 
-/* What delete_all does, of the first call of a thread. */
-QUICKLY void delete_gone(object_cell *it, object_client *client) {
-    ferretgold_key key;
-    ferretgold_object_value value;
-    do {
-        size_t left = 1;
-        while (left > 0
-               && ferretgold_raw_object_take_gone(&client->session, &key, &value, &left)
-                      == FERRETGOLD_OK) {
-            client->untaken = false;
-            delete_object(client->cache, &key, &value);
-            left += client->untaken; /* by its own calls */
-        }
-    } while (RARELY(it->alone != NULL) && has_deleted_alone(client->cache, it));
-    client->untaken = false;
-}
-
 /* Ends the first call of a thread. */
 static inline void end(object_cell *it) {
     object_client *client = it->client;
-    it->depth = 0;
     if (RARELY(it->in_use != client)) {
         client_unclaimed(it->in_use);
-        it->ready = client != NULL && !has_backlog(client) ? it->life : 0;
-        return;
+        it->in_use = client;
+    } else {
+        client_left(client);
     }
-    client_left(client);
-    it->ready = has_backlog(client) ? 0 : it->life;
+    const bool ready = client != NULL && !has_backlog(client);
+    it->ready = ready ? it->life : 0;
+    it->depth = ready;
 }
 
 /* Ends one that began at once: its deleters' calls changed neither its client nor the backlog. */
 static inline void end_at_once(object_cell *it, object_client *client) {
-    it->depth = 0;
     it->ready = it->life;
     client_left(client);
 }

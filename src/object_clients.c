@@ -34,16 +34,16 @@ static bool all_fenced(void) {
            || membarrier(MEMBARRIER_CMD_GLOBAL) == 0;
 }
 
-static uint32_t own_token(void) {
+static uint64_t own_token(void) {
     if (object_self.token == NOBODY) {
         object_self.cursor = (uint32_t)syscall(SYS_gettid);
-        object_self.token = object_self.cursor << 1;
+        object_self.token = (uint64_t)object_self.cursor << 1;
     }
     return object_self.token;
 }
 
 /* Whether the thread of a token has ended. */
-static bool has_ended(uint32_t token) {
+static bool has_ended(uint64_t token) {
     return syscall(SYS_tgkill, getpid(), token >> 1, 0) != 0 && errno == ESRCH;
 }
 
@@ -55,7 +55,7 @@ static bool has_ended(uint32_t token) {
 static object_cell *cell_freed(void) {
     for (uint32_t k = 0; k < CELLS; k++) {
         object_cell *it = &object_self.cell[object_self.turn++ % CELLS];
-        if (it->depth == 0) {
+        if (!is_in_call(it)) {
             return it;
         }
     }
@@ -81,12 +81,12 @@ object_cell *cell_found(const ferretgold_object_cache *cache) {
 /* ---- Claims ---------------------------------------------------------------------------------- */
 
 static void unclaim(object_client *client) {
-    const uint32_t seen = atomic_load_explicit(&client->claim, memory_order_relaxed);
-    atomic_store(&client->claim, seen & ~(uint32_t)CLAIMED);
+    const uint64_t seen = atomic_load_explicit(&client->claim, memory_order_relaxed);
+    atomic_store(&client->claim, seen & ~(uint64_t)CLAIMED);
 }
 
 bool client_claimed(object_client *client) {
-    uint32_t seen = atomic_load_explicit(&client->claim, memory_order_relaxed);
+    uint64_t seen = atomic_load_explicit(&client->claim, memory_order_relaxed);
     if ((seen & CLAIMED) != 0 || atomic_load_explicit(&client->inside, memory_order_relaxed)) {
         return false;
     }
@@ -117,10 +117,10 @@ static void adopt(object_cell *it, object_client *client) {
 }
 
 /* Claims a client that this token names, from a number on; null if there is none. */
-static object_client *named_by(ferretgold_object_cache *cache, uint32_t token, uint32_t first) {
+static object_client *named_by(ferretgold_object_cache *cache, uint64_t token, uint64_t first) {
     for (uint32_t n = 0; n < cache->config.clients; n++) {
         object_client *client = &cache->client[(first + n) % cache->config.clients];
-        uint32_t seen = token;
+        uint64_t seen = token;
         if (atomic_load_explicit(&client->claim, memory_order_relaxed) == seen
             && atomic_compare_exchange_strong(&client->claim, &seen, seen | CLAIMED)) {
             client_used(client);
@@ -131,7 +131,7 @@ static object_client *named_by(ferretgold_object_cache *cache, uint32_t token, u
 }
 
 /* Whether this token names a client, which somebody else has claimed. */
-static bool has_named(ferretgold_object_cache *cache, uint32_t token) {
+static bool has_named(ferretgold_object_cache *cache, uint64_t token) {
     for (uint32_t n = 0; n < cache->config.clients; n++) {
         if (atomic_load_explicit(&cache->client[n].claim, memory_order_relaxed)
             == (token | CLAIMED)) {
@@ -161,7 +161,7 @@ static bool has_borrowed(ferretgold_object_cache *cache, object_cell *it) {
     if (client == NULL) {
         return false;
     }
-    const uint32_t named = atomic_load_explicit(&client->claim, memory_order_relaxed) >> 1 << 1;
+    const uint64_t named = atomic_load_explicit(&client->claim, memory_order_relaxed) >> 1 << 1;
     if (client == it->client || (it->client == NULL && (named == NOBODY || has_ended(named)))) {
         adopt(it, client);
     }
@@ -173,7 +173,7 @@ static bool has_borrowed(ferretgold_object_cache *cache, object_cell *it) {
  * ended, and this one has its number; or the cell went to another cache. */
 bool client_found(ferretgold_object_cache *cache, object_cell *it) {
     if (it->client == NULL) {
-        const uint32_t token = own_token();
+        const uint64_t token = own_token();
         object_client *client = named_by(cache, token, token >> 1);
         if (client == NULL && !has_named(cache, token)) {
             client = named_by(cache, NOBODY, token >> 1);
@@ -189,7 +189,7 @@ bool client_found(ferretgold_object_cache *cache, object_cell *it) {
 /* The thread's own client is nobody's from now on. Where somebody claims it just now it stays this
  * thread's, until that ends. */
 static void give_up(object_client *client) {
-    uint32_t token = object_self.token;
+    uint64_t token = object_self.token;
     client_left(client);
     (void)atomic_compare_exchange_strong(&client->claim, &token, NOBODY);
 }

@@ -74,6 +74,7 @@ static ferretgold_object_cache *made(const ferretgold_object_config *config) {
         for (uint32_t k = 0; k < config->handles; k++) {
             client->records[k].handle.index = k;
             client->records[k].handle.client = number;
+            client->records[k].more = GIVEN_BACK;
         }
     }
     return it;
@@ -262,10 +263,11 @@ ferretgold_status ferretgold_object_close(ferretgold_object_cache *cache) {
         return FERRETGOLD_NULL;
     }
     object_cell *it = cell_of(cache);
-    if (it == NULL || it->depth > 0 || !is_quiet(cache)) {
+    if (it == NULL || is_in_call(it) || !is_quiet(cache)) {
         return FERRETGOLD_CLIENTS_OUT;
     }
     claim_all(cache);
+    it->ready = 0;
     it->depth = 1;
     settle_all(cache, it);
     it->depth = 0;

@@ -227,7 +227,7 @@ impl<V> Objects<V> {
 
     /// What the calls of all threads came to, in sum, also while they are at work: of calls that had
     /// returned. No number falls. An insertion that isn't asked for by priority counts as one that is
-    /// held, and those of [`there`](Counts::there) and behind `refused` are 0.
+    /// held, and [`lost`](Counts::lost) has what insertions lost.
     pub fn counts(&self) -> Counts {
         self.home().cache().counts()
     }

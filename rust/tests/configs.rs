@@ -91,7 +91,7 @@ fn sizes_take_their_memory() {
     let clients = 65 * (856 + 72 * 4 + 104 * 7) + 64 * 2;
     assert_eq!(bytes(false, false).memory(), tables + clients + 496);
     let tables = 4 * (272 + 16 * 64);
-    let clients = 65 * (1320 + 72 * 4 + 192 * 7 + 24 * 9);
+    let clients = 65 * (1384 + 72 * 4 + 192 * 7 + 24 * 9);
     assert_eq!(objects(false, false).memory(), tables + clients + 6640);
 }
 

@@ -485,7 +485,9 @@ void database() {
     EXPECT(cache->TotalCharge() > 100000 && cache->TotalCharge() <= 300000, true);
     const ferretgold_counts counts = ferretgold::counts_of(*cache);
     EXPECT(counts.hits > counts.misses && counts.placed > 0, true);
-    EXPECT(counts.misses >= counts.placed + counts.dropped + counts.standalone + counts.refused, true);
+    EXPECT(counts.misses >= counts.placed + counts.there + counts.dropped + counts.standalone
+                                + counts.refused,
+           true);
 }
 
 } // namespace

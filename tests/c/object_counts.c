@@ -98,7 +98,8 @@ static void rows(void) {
     MUST(ferretgold_object_insert_pinned(it, &other, NULL, 0, 1, FERRETGOLD_LOW, NULL, NULL)
          == FERRETGOLD_OK);
     MUST(ferretgold_object_lookup(it, &other, &held[0]) == FERRETGOLD_OK);
-    MUST(is_so(it, (ferretgold_counts){.hits = 1, .misses = 1, .placed = 2, .dropped = 1, .refused = 1}));
+    MUST(is_so(it, (ferretgold_counts){.hits = 1, .misses = 1, .placed = 2, .there = 1, .refused = 1,
+                                       .by_turns = {4}}));
     MUST(ferretgold_object_insert_pinned(it, &key, NULL, 0, 1, FERRETGOLD_LOW, NULL, &held[1])
          == FERRETGOLD_OK);
     MUST(ferretgold_object_lookup(it, &other, &none) == FERRETGOLD_HANDLES_FULL);
@@ -109,10 +110,90 @@ static void rows(void) {
     }
     MUST(ferretgold_object_pin_at(it, 0, 0, &none) == FERRETGOLD_MISS
          || ferretgold_object_release(it, none, true, false, NULL) == FERRETGOLD_OK);
-    MUST(is_so(it, (ferretgold_counts){.hits = 1, .misses = 2, .placed = 2, .dropped = 1,
-                                       .standalone = 1, .refused = 2}));
+    MUST(is_so(it, (ferretgold_counts){.hits = 1, .misses = 2, .placed = 2, .there = 2, .refused = 2,
+                                       .by_turns = {6}}));
     MUST(ferretgold_object_close(it) == FERRETGOLD_OK);
     MUST(atomic_exchange(&deleted, 0) == 3);
+}
+
+/* How many insertions by_turns has. */
+static uint64_t by_turns(const ferretgold_counts *it) {
+    uint64_t sum = 0;
+    for (size_t k = 0; k < sizeof it->by_turns / sizeof it->by_turns[0]; k++) {
+        sum += it->by_turns[k];
+    }
+    return sum;
+}
+
+/* Whether one insertion more is counted, by the turns that it took. */
+static bool is_one_more(const ferretgold_counts *was, const ferretgold_counts *is) {
+    ferretgold_counts wanted = *was;
+    size_t k = 0;
+    while (k < sizeof wanted.by_turns / sizeof wanted.by_turns[0] - 1
+           && is->turns - was->turns > (k == 0 ? 0 : UINT64_C(1) << (k - 1))) {
+        k++;
+    }
+    wanted.by_turns[k] += 1;
+    return memcmp(wanted.by_turns, is->by_turns, sizeof wanted.by_turns) == 0;
+}
+
+#ifdef __SANITIZE_THREAD__
+enum { MARKS = 0 }; /* the store that stands before the library then marks nothing */
+#else
+enum { MARKS = 1 };
+#endif
+
+/* The numbers of insertions that turn the hand: what is evicted, its charges, and which of it was read;
+ * on one thread nothing is lost. */
+static void evictions(void) {
+    enum { ENTRIES = 100, CHARGE = 7, ROOM = 5 };
+    ferretgold_object_config config = FERRETGOLD_OBJECT_CONFIG;
+    ferretgold_object_cache *it = NULL;
+    const ferretgold_object_handle *held = NULL;
+    ferretgold_counts is, was = {0};
+    config.slots = 16, config.shards = 1, config.clients = 1, config.handles = 8, config.marks = true;
+    config.capacity = ROOM * CHARGE;
+    MUST(ferretgold_object_open(&config, delete_object, NULL, &it) == FERRETGOLD_OK);
+    for (uint64_t k = 0; k < ENTRIES; k++) {
+        const ferretgold_key key = {k, 1};
+        MUST(ferretgold_object_put(it, &key, NULL, 0, CHARGE, FERRETGOLD_LOW));
+        if (k % 10 == 0) {
+            MUST(ferretgold_object_lookup(it, &key, &held) == FERRETGOLD_OK);
+            MUST(ferretgold_object_release(it, held, true, false, NULL) == FERRETGOLD_OK);
+        }
+        MUST(ferretgold_object_cache_counts(it, &is) == FERRETGOLD_OK && is_one_more(&was, &is));
+        MUST(grew(&was, &is) && is.placed == k + 1 && by_turns(&is) == k + 1 && is.lost == 0);
+        MUST(is.evicted == atomic_load(&deleted) && is.freed == CHARGE * is.evicted);
+    }
+    MUST(is.evicted >= ENTRIES - ROOM - 1 && is.turns > 0 && is.by_turns[0] >= ROOM);
+    MUST((is.evicted_hit >= 8) == (MARKS == 1) && is.evicted_hit <= 10 && is.hits == 10);
+    MUST(ferretgold_object_close(it) == FERRETGOLD_OK);
+    MUST(atomic_exchange(&deleted, 0) == ENTRIES);
+}
+
+/* One that is tried again, since its list was full, and refused in the end: it counts once, with the turns
+ * of all tries. */
+static void tries(void) {
+    enum { ENTRIES = 40, TRIES = 4 };
+    ferretgold_object_config config = FERRETGOLD_OBJECT_CONFIG;
+    ferretgold_object_cache *it = NULL;
+    ferretgold_counts is, was;
+    config.slots = 64, config.shards = 1, config.clients = 1, config.handles = 2, config.strict = true;
+    config.gone = 4, config.capacity = ENTRIES, config.seed = 1;
+    MUST(ferretgold_object_open(&config, delete_object, NULL, &it) == FERRETGOLD_OK);
+    for (uint64_t k = 0; k < ENTRIES; k++) {
+        const ferretgold_key key = {k, 2};
+        MUST(ferretgold_object_put(it, &key, NULL, 0, 1, FERRETGOLD_BOTTOM));
+    }
+    const ferretgold_key large = {ENTRIES, 2};
+    MUST(ferretgold_object_cache_counts(it, &was) == FERRETGOLD_OK && was.placed == ENTRIES);
+    MUST(ferretgold_object_insert(it, &large, NULL, 0, ENTRIES, FERRETGOLD_LOW, NULL)
+         == FERRETGOLD_CAPACITY_FULL);
+    MUST(ferretgold_object_cache_counts(it, &is) == FERRETGOLD_OK && is_one_more(&was, &is));
+    MUST(is.refused == 1 && is.turns >= was.turns + TRIES && is.placed == ENTRIES);
+    MUST(is.evicted > 4 && is.evicted == atomic_load(&deleted) && is.freed == is.evicted);
+    MUST(ferretgold_object_close(it) == FERRETGOLD_OK);
+    MUST(atomic_exchange(&deleted, 0) == ENTRIES);
 }
 
 static void *work(void *argument) {
@@ -158,10 +239,15 @@ static void compare(const worker *workers) {
         sum.dropped += its->dropped, sum.standalone += its->standalone;
         sum.refused += its->refused;
     }
-    MUST(read_all(&is) == FERRETGOLD_OK && memcmp(&is, &sum, sizeof is) == 0);
+    MUST(read_all(&is) == FERRETGOLD_OK && is.hits == sum.hits && is.misses == sum.misses);
+    MUST(is.placed == sum.placed && is.refused == sum.refused && by_turns(&is) == insertions(&sum));
+    MUST(is.there + is.dropped + is.standalone == sum.dropped + sum.standalone);
+    MUST(is.dropped < sum.dropped && is.standalone < sum.standalone); /* some met their key */
     MUST(is.hits > 0 && is.misses > 0 && is.placed > 0 && is.dropped > 0 && is.standalone > 0);
-    MUST(is.refused > 0);
+    MUST(is.refused > 0 && is.evicted > 0 && is.evicted < is.placed && is.freed >= is.evicted);
+    MUST(is.turns >= by_turns(&is) - is.by_turns[0] && is.evicted_hit == 0);
     MUST(ferretgold_object_client_counts(cache, CLIENTS, &nowhere) == FERRETGOLD_OK);
+    MUST(nowhere.by_turns[0] == insertions(&nowhere) && nowhere.turns + nowhere.evicted == 0);
     MUST(ferretgold_object_client_counts(cache, CLIENTS + 1, &is) == FERRETGOLD_OUT_OF_RANGE);
     MUST(ferretgold_object_client_counts(cache, CLIENTS + 1, NULL) == FERRETGOLD_NULL);
     MUST(ferretgold_object_client_counts(NULL, CLIENTS + 1, &is) == FERRETGOLD_NULL);
@@ -182,6 +268,8 @@ int main(int count, char **words) {
     config.slots = 8, config.shards = 2, config.clients = CLIENTS, config.handles = HANDLES;
     config.gone = 4, config.capacity = 300, config.seed = 1;
     rows();
+    evictions();
+    tries();
     MUST(ferretgold_object_open(&config, delete_object, NULL, &cache) == FERRETGOLD_OK);
     for (uint64_t k = 0; k < WORKERS + READERS; k++) {
         const bool works = k < WORKERS;

@@ -41,10 +41,11 @@ struct slot {
     std::atomic<uint64_t> meta{0}, displacement{0}, w0{0}, w1{0}, charge{0}, word{0};
 };
 
-// What a client's calls freed, and how much of what isn't its own it takes.
+// What a client's calls freed, and how much of what isn't its own it takes; and what they did.
 struct gone_list {
     std::vector<object> gone;
     std::size_t most;
+    ferretgold_stats done{};
     bool has_room(std::size_t count) const { return gone.size() + count <= most; }
 };
 
@@ -219,6 +220,7 @@ class shard {
     // Frees the entry of a slot that has this word: how many, and their charges.
     freed_slots take(std::size_t at, uint64_t word, gone_list &list) {
         if (!slots_[at].meta.compare_exchange_strong(word, OCCUPIED)) {
+            list.done.lost += 1;
             return {0, 0};
         }
         list.gone.push_back(entry(at));
@@ -266,6 +268,7 @@ class shard {
         uint64_t pinned = 0;
         for (std::size_t turn = 0; turn < 3 * slots_.size() / 4 + 1 && list.has_room(4); turn++) {
             const uint64_t from = hand_.fetch_add(4);
+            list.done.turns += 1;
             for (uint64_t k = 0; k < 4; k++) {
                 const auto [slots, charge] = visit((from + k) & (slots_.size() - 1), list, pinned);
                 freed.first += slots;
@@ -275,6 +278,8 @@ class shard {
                 break;
             }
         }
+        list.done.evicted += freed.first;
+        list.done.freed += freed.second;
         return freed;
     }
 
@@ -394,8 +399,10 @@ uint32_t insert(client &by, const object &it, uint32_t priority, bool is_pinned,
         return why;
     }
     const bool has_place = why == FERRETGOLD_OK;
-    const bool is_placed = has_place
-                           && to.place(it, COUNTDOWNS[priority], is_pinned, kept.slot) == placing::PLACED;
+    const placing where = has_place ? to.place(it, COUNTDOWNS[priority], is_pinned, kept.slot)
+                                    : placing::NO_SLOT;
+    const bool is_placed = where == placing::PLACED;
+    by.list.done.boosts += where == placing::MATCHED;
     *list_full &= !is_placed;
     *answer = is_placed ? FERRETGOLD_PLACED : is_pinned ? FERRETGOLD_STANDALONE : FERRETGOLD_DROPPED;
     if (!is_placed && is_pinned) {
@@ -566,6 +573,11 @@ uint32_t ferretgold_raw_object_insert_pinned(ferretgold_object *it, const ferret
                                              uint32_t priority, uint32_t *answer, bool *list_full,
                                              ferretgold_handle *handle) {
     return insert(client_of(it), {*key, *value, charge}, priority, true, answer, list_full, handle);
+}
+
+// Of all shards: an insertion adds only to its own.
+void ferretgold_raw_object_stats_at(ferretgold_object *it, const ferretgold_key *, ferretgold_stats *stats) {
+    *stats = client_of(it).list.done;
 }
 
 uint64_t ferretgold_raw_object_usage(ferretgold_object *it) { return sum(it, &shard::usage); }

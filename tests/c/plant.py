@@ -8,7 +8,7 @@ ferretgold_inline.h is tried again by threads that borrow clients, tests/c/pool.
 library, by which tests/c/entered.c has to end as it should. Bugs in src/file.c, src/chosen.c,
 src/object_file.c and ferretgold_file.hpp are those that the tests of these names have to see; where there
 is no xxhash.h, they are skipped. In the C of the header for objects a few functions have bugs, which the rows of tests/c/object.c
-have to see. What a compiler refuses is no bug that one could ship. Bugs that change nothing stand in
+or of tests/c/object_counts.c have to see. What a compiler refuses is no bug that one could ship. Bugs that change nothing stand in
 tests/c/equivalents, each with its reason; it fails too where one of them is seen, or isn't planted. So
 do those that threads see by chance, which may be seen.
 
@@ -39,8 +39,9 @@ STORE = "tests/c/object_store.cpp"
 APART = {*SAVES, *HANDS, STORE}  # what no trace shows
 # The functions with bugs, in files of which not all have them.
 CHOSEN = {"src/object.c": "shown shown_by ferretgold_object_find ferretgold_object_ref ferretgold_object_give_back unpin"
-                          " take_back give_up_handle tell ferretgold_object_put ferretgold_object_erase told".split(),
-          **{it: [] for it in HANDS[1:-1]}}
+                          " take_back give_up_handle tell ferretgold_object_put ferretgold_object_erase"
+                          " note_try count_turned count_placed".split(),
+          **{it: [] for it in HANDS[1:-1]}, "src/object_counts.c": ["told"]}
 CALLS = {"include/ferretgold_inline.h", "src/ferretgold.c"}  # where the checking library differs
 HEADERS = ["include/ferretgold_raw.h", "include/ferretgold_closed.h", "include/ferretgold_object.h",
            "include/ferretgold_file.h", "include/ferretgold_image.h", "include/ferretgold_object.hpp",
@@ -53,6 +54,7 @@ CPP = ["tests/c/play.cpp", "tests/c/closed.cpp"]
 STREAMS = ["tests/c/file.cpp"]
 HANDED = [f"tests/c/object{it}.c" for it in
           ("", "_bytes", "_opening", "_order", "_seeds", "_threads", "_uses", "_walk")]
+COUNTED = "tests/c/object_counts.c"
 PROVED = TOP / "crates/hcc_c/out/libhcc_c.a"
 WRAP = "-Wl,--wrap=malloc,--wrap=realloc,--wrap=aligned_alloc,--wrap=free,--wrap=getrandom"
 MET = "ferretgold: two threads use client 0 at once: ferretgold_usage and ferretgold_insert_pinned\n"
@@ -340,7 +342,7 @@ class Trials:
         if any(it.endswith(".hpp") for it in files):
             subprocess.run(["c++", "-std=c++17", *WARN, "-x", "c++-header", self.folder / "std.hpp"], check=True)
         saving = [f"{it}/{name}.c" for it in ("tests/c", "src") for name in SAVED] if files & set(SAVES) else []
-        for file in (*PLAYS, *HANDED, "tests/c/heap.c", *OBJECTS, *HANDS, *saving):
+        for file in (*PLAYS, *HANDED, COUNTED, "tests/c/heap.c", *OBJECTS, *HANDS, *saving):
             self.compiled(TOP, *WARN, "-c", TOP / file, "-o", self.object(file))
 
     @staticmethod
@@ -376,7 +378,7 @@ class Trials:
         yield from [self.passes] * (bug.file not in APART)
         yield from [self.meets] * (bug.file not in APART and bug.checks)
         yield from [self.saves] * (bug.file in SAVES)
-        yield from [self.hands] * (bug.file in HANDS)
+        yield from [self.hands, self.counts] * (bug.file in HANDS)
         yield from [self.lends] * (bug.file in CALLS and not bug.checks)
 
     def try_it(self, number, bug):
@@ -430,6 +432,13 @@ class Trials:
         parts = map(self.object, (*HANDED, "tests/c/heap.c"))
         self.compiled(here, "-o", here / "object", *parts, *library, *self.libraries)
         return self.ends(bug, 20, [here / "object", "1000"])[0]
+
+    def counts(self, here, bug):
+        """Whether calls on objects are counted as they should be."""
+        library = (here / "apart.o" if it == bug.file else self.object(it) for it in (*OBJECTS, *HANDS))
+        parts = map(self.object, (COUNTED, "tests/c/heap.c"))
+        self.compiled(here, "-o", here / "counts", *parts, *library, *self.libraries)
+        return self.ends(bug, 20, [here / "counts", "2000000"])[0]
 
     def shares(self, here, bug):
         """Whether threads find what is there in a store that they share."""

@@ -638,7 +638,10 @@ void counts_as(const rocksdb::Statistics &tickers, const ferretgold_counts &befo
                const ferretgold_counts &it) {
     EXPECT(it.hits - before.hits, tickers.getTickerCount(rocksdb::BLOCK_CACHE_HIT));
     EXPECT(it.misses - before.misses, tickers.getTickerCount(rocksdb::BLOCK_CACHE_MISS));
-    EXPECT(it.placed + it.dropped + it.standalone >= tickers.getTickerCount(rocksdb::BLOCK_CACHE_ADD), true);
+    EXPECT(it.placed + it.there + it.dropped + it.standalone
+               >= tickers.getTickerCount(rocksdb::BLOCK_CACHE_ADD),
+           true);
+    EXPECT(it.evicted > 0 && it.evicted < it.placed && it.turns > 0, true);
     EXPECT(it.refused, tickers.getTickerCount(rocksdb::BLOCK_CACHE_ADD_FAILURES));
     EXPECT(it.hits > 0 && it.misses > 0 && it.placed > 0, true);
 }
