@@ -249,8 +249,8 @@ typedef struct ferretgold_stats {
     uint64_t lost;        /* compare-exchanges that lost to another thread's step */
 } ferretgold_stats;
 
-/* What calls came to. Each insertion that isn't refused for its arguments or for lack of memory is one of
- * placed, there, dropped, standalone and refused, and one of by_turns. */
+/* What calls came to. Each insertion that isn't refused for its arguments is one of placed, there, dropped,
+ * standalone and refused, and one of by_turns. */
 typedef struct ferretgold_counts {
     uint64_t hits;         /* ferretgold_lookup, _get and _get_part that returned OK */
     uint64_t misses;       /* and all others: MISS, TOO_SHORT, HANDLES_FULL, SPENT */
@@ -258,7 +258,7 @@ typedef struct ferretgold_counts {
     uint64_t there;        /* that met an entry of their key: THERE, or STANDALONE */
     uint64_t dropped;      /* that found no place, or no empty slot, and were dropped */
     uint64_t standalone;   /* and that stand alone for that */
-    uint64_t refused;      /* by HANDLES_FULL, SPENT, TOO_LARGE, CAPACITY_FULL, OCCUPANCY_FULL */
+    uint64_t refused;      /* by HANDLES_FULL, SPENT, TOO_LARGE, CAPACITY_FULL, OCCUPANCY_FULL, OUT_OF_MEMORY */
     uint64_t evicted;      /* these five as in ferretgold_stats */
     uint64_t evicted_hit;
     uint64_t freed;
@@ -499,12 +499,12 @@ ferretgold_status ferretgold_insert(ferretgold_client *client, const ferretgold_
  * DROPPED: it isn't in the table; look-ups don't find it, its charge is in the usage, and it goes
  * with its last handle.
  *
- * Allocates a copy of the value by malloc, if it has bytes, and frees it unless the entry is
- * standalone, which keeps it. Costs what ferretgold_insert costs, the copy, and if no place was
- * found two adds more. Bound: the same.
+ * Of what stands alone a copy is allocated by malloc, if it has bytes; nothing else is. Costs what
+ * ferretgold_insert costs, and if no place was found two adds more.
+ * Bound: (4*L + 25)*(3*L/4 + 1) + 8*L + W + 10.
  *
- * Refuses BAD_PRIORITY, NO_CHARGE, TOO_LONG, OUT_OF_MEMORY, HANDLES_FULL, SPENT, then as
- * ferretgold_insert.
+ * Refuses BAD_PRIORITY, NO_CHARGE, TOO_LONG, HANDLES_FULL, SPENT, then as ferretgold_insert, and last
+ * OUT_OF_MEMORY: evictions stay made, a serial is used, charge and place are given back.
  */
 ferretgold_status ferretgold_insert_pinned(ferretgold_client *client, const ferretgold_key *key,
                                            const void *value, size_t length, uint32_t charge,

@@ -45,6 +45,7 @@ static bool is_refused(uint32_t status) {
     case FERRETGOLD_TOO_LARGE:
     case FERRETGOLD_CAPACITY_FULL:
     case FERRETGOLD_OCCUPANCY_FULL:
+    case FERRETGOLD_OUT_OF_MEMORY:
     case FERRETGOLD_NO_CLIENT:
     case FERRETGOLD_GONE_FULL: return true;
     default: return false;

@@ -145,38 +145,41 @@ static void no_memory(uint32_t slots) {
     EXPECT(ferretgold_close(cache, NULL), 0);
 }
 
-/* The one request of an insertion with a handle, which comes after the refusals of its arguments and
- * before those of the client: refused, it changes nothing; met, it is all that is asked for. */
+/* An insertion with a handle asks for memory where its entry comes to stand alone, once, and last: refused,
+ * it leaves nothing but that a serial was used. */
 static void no_copy(void) {
-    static const struct { int priority; uint32_t charge; size_t length; int none, one; } all[] = {
-        {3, 1, 1, 21, 21},  {1, 0, 1, 18, 18}, {1, 1, 17, 19, 19}, {1, 1, 1, 28, 0},
-        {1, 1, 16, 28, 23}, {1, 1, 0, 23, 23}};
-    ferretgold_config config = SMALL;
+    static const struct { int priority; uint32_t charge; size_t length; bool is_there; int none, one; } all[] = {
+        {3, 1, 1, true, 21, 21}, {1, 0, 1, true, 18, 18}, {1, 1, 17, true, 19, 19}, {1, 1, 1, true, 28, 0},
+        {1, 1, 16, true, 28, 0}, {1, 1, 0, true, 0, 0},   {1, 1, 16, false, 0, 0}};
     ferretgold_cache *cache = NULL;
     ferretgold_client *it = NULL;
-    ferretgold_handle handle = {0, 5, 0, 0};
-    ferretgold_inserted inserted = (ferretgold_inserted)7;
-    char bytes[17] = {0};
-    config.handles = 1;
-    EXPECT(ferretgold_open(&config, &cache), 0);
+    const char bytes[17] = {0};
+    EXPECT(ferretgold_open(&SMALL, &cache), 0);
     EXPECT(ferretgold_client_open(cache, &it), 0);
+    EXPECT(ferretgold_insert(it, &KEY, "", 0, 1, FERRETGOLD_LOW, NULL), 0);
     for (size_t k = 0; k < sizeof all / sizeof *all; k++) {
-        const uint64_t left = ferretgold_serials_left(it);
-        const uint32_t held = ferretgold_held(it);
         for (size_t more = 0; more < 2; more++) {
+            const uint64_t left = ferretgold_serials_left(it);
+            ferretgold_handle handle = {0, 5, 0, 0};
+            ferretgold_inserted inserted = (ferretgold_inserted)7;
+            uint64_t usage = 0;
             heap_left = more;
             const ferretgold_status status = ferretgold_insert_pinned(
-                it, &KEY, bytes, all[k].length, all[k].charge,
+                it, all[k].is_there ? &KEY : &OTHER, bytes, all[k].length, all[k].charge,
                 (ferretgold_priority)all[k].priority, &inserted, &handle);
             EXPECT(more - heap_left, more == 1 && all[k].none == 28);
             heap_left = SIZE_MAX;
             EXPECT(status, more == 0 ? all[k].none : all[k].one);
-            EXPECT(left - ferretgold_serials_left(it), status == 0);
-            EXPECT(ferretgold_held(it) - held, status == 0);
-            EXPECT((int)inserted == 7 && handle.serial == 5, ferretgold_held(it) == 0);
+            EXPECT(left - ferretgold_serials_left(it), status == 0 || status == 28);
+            EXPECT(ferretgold_held(it), status == 0);
+            EXPECT(inserted, status != 0 ? 7 : all[k].is_there ? FERRETGOLD_STANDALONE : FERRETGOLD_PLACED);
+            EXPECT(handle.serial == 5, status != 0);
+            EXPECT(status != 0 ? 0 : ferretgold_release(it, handle, false, true, NULL), 0);
+            EXPECT(ferretgold_usage(it, &usage), 0);
+            EXPECT(usage, 1);
         }
     }
-    EXPECT(ferretgold_client_close_releasing(cache, it), 0);
+    EXPECT(ferretgold_client_close(cache, it), 0);
     EXPECT(ferretgold_close(cache, NULL), 0);
 }
 

@@ -72,7 +72,7 @@ static void sizes(void) {
 
 /* ---- A cache in which some are due ------------------------------------------------------------ */
 
-enum { PRIORITY, CHARGE, LENGTH, MEMORY, HANDLES, SERIALS, LARGE, CAPACITY, OCCUPANCY, WHYS };
+enum { PRIORITY, CHARGE, LENGTH, HANDLES, SERIALS, LARGE, CAPACITY, OCCUPANCY, MEMORY, WHYS };
 
 /* A client for which they are due, with a handle if it has used its serials or handles; another one holds what
  * fills the shard. */
@@ -117,7 +117,7 @@ static void end(stage on) {
 
 /* Of an insertion, the first that is due; one without a handle needs neither that nor memory. */
 static int first_of(unsigned due, bool is_pinned) {
-    static const int status[WHYS] = {21, 18, 19, 28, 23, 24, 25, 26, 27};
+    static const int status[WHYS] = {21, 18, 19, 23, 24, 25, 26, 27, 28};
     for (int why = 0; why < WHYS; why++) {
         if (is_due(due, why) && (is_pinned || (why != MEMORY && why != HANDLES))) {
             return status[why];
@@ -126,9 +126,9 @@ static int first_of(unsigned due, bool is_pinned) {
     return 0;
 }
 
-/* Sees that an insertion counts, unless it was refused for its arguments or for lack of memory. */
+/* Sees that an insertion counts, unless it was refused for its arguments. */
 static void counts(const ferretgold_cache *cache, const ferretgold_counts *before, int status) {
-    const bool is_counted = status != 21 && status != 18 && status != 19 && status != 28;
+    const bool is_counted = status != 21 && status != 18 && status != 19;
     ferretgold_counts now;
     EXPECT(ferretgold_cache_counts(cache, &now), 0);
     EXPECT(now.refused - before->refused, is_counted && status != 0);
@@ -140,14 +140,15 @@ static void insertion(unsigned due, bool is_pinned) {
     const ferretgold_priority priority = is_due(due, PRIORITY) ? (ferretgold_priority)3 : FERRETGOLD_LOW;
     const uint32_t charge = is_due(due, CHARGE) ? 0 : is_due(due, LARGE) ? CHARGES + 1 : 1;
     const size_t length = is_due(due, LENGTH) ? LONGEST + 1 : 1;
+    const ferretgold_key *key = is_pinned && is_due(due, MEMORY) ? &THERE : &ABSENT; /* there it stands alone */
     ferretgold_handle handle;
     ferretgold_counts before;
     const stage on = prepared(due);
     EXPECT(ferretgold_cache_counts(on.cache, &before), 0);
     heap_left = is_due(due, MEMORY) ? 0 : SIZE_MAX;
     const ferretgold_status status =
-        is_pinned ? ferretgold_insert_pinned(on.it, &ABSENT, bytes, length, charge, priority, NULL, &handle)
-                  : ferretgold_insert(on.it, &ABSENT, bytes, length, charge, priority, NULL);
+        is_pinned ? ferretgold_insert_pinned(on.it, key, bytes, length, charge, priority, NULL, &handle)
+                  : ferretgold_insert(on.it, key, bytes, length, charge, priority, NULL);
     heap_left = SIZE_MAX;
     EXPECT(status, first_of(due, is_pinned));
     counts(on.cache, &before, (int)status);

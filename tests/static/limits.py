@@ -79,6 +79,8 @@ def limits():
 SIZES = [(8, 1, 1), (64, 3, 2), (8192, 512, 64), (65536, 100, 7)]
 # What C makes of several calls: it has the sum of their bounds.
 SUMS = {"get_part": ("lookup", "read_part", "release")}
+# What C calls otherwise than Rattle.
+IN_RATTLE = {"insert_pinned": "insert_pinned_copy"}
 DEFINED = {"hcc_table": "Steps", "hcc_charge": "Evicted", "hcc_shard": "Inserted"}
 VARIABLES = {"self.now.geometry.slots": "L", "self.now.geometry.room": "W", "length self.now.shards.items": "S",
              "words_for result": "W", "words_for len": "W", "words_across offset result.given": "W",
@@ -160,7 +162,8 @@ def said_in_header():
         bound = re.search(r"Bound: (.+?)\.(?:\s|$)", re.sub(r"\n *\*? *", " ", comment))
         if bound:
             last = last if bound[1] == "the same" else bound[1]
-            yield from (("include/ferretgold.h", name, last) for name in re.findall(r"\bferretgold_(\w+)\(", calls))
+            names = re.findall(r"\bferretgold_(\w+)\(", calls)
+            yield from (("include/ferretgold.h", IN_RATTLE.get(name, name), last) for name in names)
 
 
 def said_in_guide():

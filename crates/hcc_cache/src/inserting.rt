@@ -275,8 +275,8 @@ impl<T: Tag> Cache<T> {
     /// alone, into memory that is asked for then: what is placed takes none.
     ///
     /// It is refused as `insert_pinned` is, and last where there is no such memory: evictions stay
-    /// made, a serial is used, and the entry, which stood alone, was let go, so that charge and place
-    /// are given back.
+    /// made, a serial is used, and the entry, which stood alone, was let go, so that charge and
+    /// place are given back.
     ///
     /// It costs what `insert_pinned` does; where memory was refused two subtractions more.
     pub fn insert_pinned_copy(
