@@ -160,7 +160,7 @@ static void no_copy(void) {
     for (size_t k = 0; k < sizeof all / sizeof *all; k++) {
         for (size_t more = 0; more < 2; more++) {
             const uint64_t left = ferretgold_serials_left(it);
-            ferretgold_handle handle = {0, 5, 0, 0};
+            ferretgold_handle handle = {0, UINT64_MAX, 0, 0};
             ferretgold_inserted inserted = (ferretgold_inserted)7;
             uint64_t usage = 0;
             heap_left = more;
@@ -173,7 +173,7 @@ static void no_copy(void) {
             EXPECT(left - ferretgold_serials_left(it), status == 0 || status == 28);
             EXPECT(ferretgold_held(it), status == 0);
             EXPECT(inserted, status != 0 ? 7 : all[k].is_there ? FERRETGOLD_STANDALONE : FERRETGOLD_PLACED);
-            EXPECT(handle.serial == 5, status != 0);
+            EXPECT(handle.serial == UINT64_MAX, status != 0);
             EXPECT(status != 0 ? 0 : ferretgold_release(it, handle, false, true, NULL), 0);
             EXPECT(ferretgold_usage(it, &usage), 0);
             EXPECT(usage, 1);

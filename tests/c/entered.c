@@ -26,10 +26,11 @@ int main(void) {
     ferretgold_handle handle;
     config.clients = 1;
     if (ferretgold_open(&config, &cache) != FERRETGOLD_OK ||
-        ferretgold_client_open(cache, &opened) != FERRETGOLD_OK) {
+        ferretgold_client_open(cache, &opened) != FERRETGOLD_OK ||
+        ferretgold_insert(opened, &key, "a", 1, 1, FERRETGOLD_LOW, NULL) != FERRETGOLD_OK) {
         return 2;
     }
-    client = opened;
+    client = opened; /* the next one stands alone, and so is copied */
     (void)ferretgold_insert_pinned(opened, &key, "a", 1, 1, FERRETGOLD_LOW, NULL, &handle);
     printf("the calls met, and went on\n");
     return 0;
