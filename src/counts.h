@@ -9,9 +9,9 @@
 static inline void count_more(uint64_t *number) {
 #ifdef __x86_64__ /* by one instruction, of which compilers make three */
     __asm__("addq $1, %0" : "+m"(*number) : : "cc");
-    return;
-#endif
+#else
     __atomic_store_n(number, __atomic_load_n(number, __ATOMIC_RELAXED) + 1, __ATOMIC_RELAXED);
+#endif
 }
 
 /* The same of a number that several threads write. */

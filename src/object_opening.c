@@ -71,6 +71,7 @@ static ferretgold_object_cache *made(const ferretgold_object_config *config) {
         client->number = number;
         client->records = &records[(size_t)number * config->handles];
         client->size = config->handles * sizeof(record);
+        it->spare[number].more = GIVEN_BACK;
         for (uint32_t k = 0; k < config->handles; k++) {
             client->records[k].handle.index = k;
             client->records[k].handle.client = number;
