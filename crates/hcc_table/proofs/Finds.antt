@@ -84,13 +84,14 @@ module _ {T : Type 0} where
           ]
 
   -- Where no trail goes on, each entry of the key that is held stands at a probe that was seen.
-  pub ended : (slots : ℕ) (key : Key) → MOST_SLOTS % slots ≡ 0 → (i n : ℕ) (v w : View T) → n ≡ 0
+  pub ended : (slots : ℕ) (key : Key) → MOST_SLOTS % slots ≡ 0 → (i : ℕ) {n : ℕ} (v w : View T)
+      → n ≡ 0
       → Buried key (IsBefore slots key (i + 1)) v w
       → Each (λ (r : Record). times (probe_slot slots key i)
       (trail_to slots (key_of r.entry) r.slot) ≤ n) v.records
       → Each (λ (r : Record). r.slot < slots) v.records
       → AllDead key v w
-  ended slots key power i n v w zero buried held within =
+  ended slots key power i {n} v w zero buried held within =
       each_both
       (λ (r : Record). key_of r.entry ≡ key → IsBefore slots key (i + 1) r.slot
       → is_in r.entry.stamp w.work.dead ≡ true)
@@ -126,10 +127,10 @@ module _ {T : Type 0} where
 
   module _ (slots : ℕ) (key : Key) (power : MOST_SLOTS % slots ≡ 0) where
     -- A search begins.
-    pub begins : (walk : Walk) (seat : SeatOf T) → walk.probe ≡ key.w1
+    pub begins : {walk : Walk} (seat : SeatOf T) → walk.probe ≡ key.w1
         → walk.stride ≡ bit_or key.w0 1
         → walk.mask ≡ slots - 1 → IsSearching slots key 0 walk seat seat
-    begins walk seat probe stride mask = record {
+    begins seat probe stride mask = record {
       same = record { table = refl; number = refl; slots = refl };
       sought = searched_refl (view seat);
       walking = record {
@@ -170,10 +171,10 @@ module _ {T : Type 0} where
         low = rw (← records_are) within
 
         -- It goes on to the next probe.
-        pub goes_on : (next : Walk) → next.probe ≡ (walk.probe + walk.stride) % 2 ^ 64
+        pub goes_on : {next : Walk} → next.probe ≡ (walk.probe + walk.stride) % 2 ^ 64
             → next.stride ≡ walk.stride
             → next.mask ≡ walk.mask → IsSearching slots key (i + 1) next seat counted
-        goes_on next probe stride mask = record {
+        goes_on probe stride mask = record {
           same = seat_then seat now counted s.same (seat_then now probed counted same same_then);
           sought = sought;
           walking = record {
@@ -191,14 +192,14 @@ module _ {T : Type 0} where
         pub ends : n ≡ 0 → IsMissed key (view seat) (view counted)
         ends zero = record {
           sought = sought;
-          dead = ended slots key power i n (view seat) (view counted) zero more
+          dead = ended slots key power i (view seat) (view counted) zero more
               (rw (← records_are, ← slot_is) held) low;
         }
 
     -- It ends after all probes.
-    pub ends_all : (i : ℕ) (walk : Walk) (seat now : SeatOf T) → 0 < slots → slots ≤ i → i ≤ slots
+    pub ends_all : {i : ℕ} {walk : Walk} {seat now : SeatOf T} → 0 < slots → slots ≤ i → i ≤ slots
         → IsSearching slots key i walk seat now → IsMissed key (view seat) (view now)
-    ends_all i walk seat now some least most s =
+    ends_all {i} {walk} {seat} {now} some least most s =
         let same : i ≡ slots = omega arith in
         record {
           sought = s.sought;

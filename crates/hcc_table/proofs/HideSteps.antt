@@ -22,9 +22,9 @@ use Rattle.hcc_table.specs.Searched.{Grows}
 use Rattle.hcc_table.proofs.Probings.{HasSeen, each_front, more_seen, one_longer, seen_none, seen_then, split_last}
 
 -- a sum, and one more
-total_more : {A : Type 0} (f : A → ℕ) (xs : List A) (x : A) (all here sum : ℕ)
+total_more : {A : Type 0} (f : A → ℕ) (xs : List A) {x : A} {all here sum : ℕ}
     → all ≡ total f xs → here ≡ f x → sum ≡ all + here → sum ≡ total f (xs ++ x ∷ [])
-total_more f xs x all here sum old one is = let split = total-append f xs (x ∷ []) in omega arith
+total_more f xs {x} old one is = let split = total-append f xs (x ∷ []) in omega arith
 
 module _ {T A : Type 0} (fits : T → Key → List ℕ → Type 0) (table : RuleTable T A) (key : Key)
     (name : ℕ) where
@@ -44,9 +44,9 @@ module _ {T A : Type 0} (fits : T → Key → List ℕ → Type 0) (table : Rule
     pub dead : Each (IsDeadIn (view now).work.dead) visits.seen
     pub roomy : Each (λ (p : HideProbe). room ≡ true → p.room ≡ true) visits.seen
 
-  pub hid_none : (room : Bool) (effort : Effort) (seat : SeatOf T)
+  pub hid_none : {room : Bool} {effort : Effort} {seat : SeatOf T}
       → HasHid 0 room nothing_erased effort effort seat seat
-  hid_none room effort seat = record {
+  hid_none {room} {effort} {seat} = record {
     visits = seen_none (slots_of table) key (HidAt fits table key name) Goes effort seat;
     hidden = refl;
     slots = refl;
@@ -89,20 +89,14 @@ module _ {T A : Type 0} (fits : T → Key → List ℕ → Type 0) (table : Rule
 
     hidden_more : sum.hidden
         ≡ total (λ (p : HideProbe). p.done.hidden) (h.visits.seen ++ probe ∷ [])
-    hidden_more =
-        total_more (λ (p : HideProbe). p.done.hidden) h.visits.seen probe all.hidden here.hidden
-        sum.hidden h.hidden refl is_sum.0
+    hidden_more = total_more (λ (p : HideProbe). p.done.hidden) h.visits.seen h.hidden refl is_sum.0
 
     slots_more : sum.slots ≡ total (λ (p : HideProbe). p.done.slots) (h.visits.seen ++ probe ∷ [])
-    slots_more =
-        total_more (λ (p : HideProbe). p.done.slots) h.visits.seen probe all.slots here.slots
-        sum.slots h.slots refl is_sum.1
+    slots_more = total_more (λ (p : HideProbe). p.done.slots) h.visits.seen h.slots refl is_sum.1
 
     charge_more : sum.charge
         ≡ total (λ (p : HideProbe). p.done.charge) (h.visits.seen ++ probe ∷ [])
-    charge_more =
-        total_more (λ (p : HideProbe). p.done.charge) h.visits.seen probe all.charge here.charge
-        sum.charge h.charge refl is_sum.2
+    charge_more = total_more (λ (p : HideProbe). p.done.charge) h.visits.seen h.charge refl is_sum.2
 
     grown : (o : Option Stamp) → IfSome o (λ stamp. is_in stamp (view now).work.dead ≡ true)
         → IfSome o (λ stamp. is_in stamp (view mid).work.dead ≡ true)
@@ -151,10 +145,10 @@ module _ {T A : Type 0} (fits : T → Key → List ℕ → Type 0) (table : Rule
     }
 
   -- It ends after all probes.
-  pub hides_every : (i : ℕ) (room : Bool) (all : Erased) (e f : Effort) (old now : SeatOf T)
+  pub hides_every : {i : ℕ} {room : Bool} {all : Erased} {e f : Effort} {old now : SeatOf T}
       → HasHid i room all e f old now → 0 < i → i ≡ slots_of table
       → HidesAll fits table key name room all e f old now
-  hides_every i room all e f old now h some whole = record {
+  hides_every {i} {room} {all} {e} {f} {old} {now} h some whole = record {
     earlier = split.0;
     last = split.1;
     probes =

@@ -28,12 +28,12 @@ replicated key (suc m) n =
 
 module _ {T : Type 0} where
   -- Both in sum.
-  erased_then : (key : Key) (h s c i t d : ℕ) (u v w : View T) → IsErased key h s c u v
+  erased_then : {key : Key} {h s c i t d : ℕ} {u v w : View T} → IsErased key h s c u v
       → IsErased key i t d v w
       → IsErased key (h + i) (s + t) (c + d) u w
-  erased_then key h s c i t d u v w a b = record {
+  erased_then {key} {h} {s} {c} {i} {t} {d} {u} {v} {w} a b = record {
     erases = subst (λ keys. Erases keys (s + t) (c + d) u w) (replicated key h i)
-        (erases_then (replicate h key) (replicate i key) s t c d u v w a.erases b.erases);
+        (erases_then a.erases b.erases);
     records = b.records ∙ a.records;
     met =
         let sum = total-append (λ k. when (is_key key k) 1) a.met.0 b.met.0 in
@@ -58,14 +58,14 @@ module _ {T : Type 0} where
     pub small : all.charge ≤ all.slots * (2 ^ 32 - 1)
 
   module _ (slots : ℕ) (key : Key) (power : MOST_SLOTS % slots ≡ 0) where
-    pub hides_none : (walk : Walk) (all : Erased) (seat : SeatOf T) → IsAtRest (view seat)
+    pub hides_none : {walk : Walk} {all : Erased} {seat : SeatOf T} → IsAtRest (view seat)
         → walk.probe ≡ key.w1
         → walk.stride ≡ bit_or key.w0 1 → walk.mask ≡ slots - 1
         → all ≡ record { hidden = 0; slots = 0; charge = 0 }
         → IsHiding slots key 0 walk all seat seat
-    hides_none walk all seat rest probe stride mask none = record {
+    hides_none {seat = seat} rest probe stride mask none = record {
       same = record { table = refl; number = refl; slots = refl };
-      erased = rw none (erased_none key (view seat) (view seat) rest (searched_refl (view seat)));
+      erased = rw none (erased_none rest (searched_refl (view seat)));
       walking = record {
         probe = rw (probe, mask) (first_masked slots key power);
         stride = stride;
@@ -96,10 +96,7 @@ module _ {T : Type 0} where
           (view hid).records)
           (within : Each (λ (r : Record). r.slot < slots) (view hid).records) where
         pub both : IsErased key sum.hidden sum.slots sum.charge (view seat) (view counted)
-        both =
-            rw (kept, is_sum.0, is_sum.1, is_sum.2)
-            (erased_then key all.hidden all.slots all.charge here.hidden here.slots here.charge
-            (view seat) (view now) (view hid) s.erased erased)
+        both = rw (kept, is_sum.0, is_sum.1, is_sum.2) (erased_then s.erased erased)
 
         records_same : (view hid).records ≡ (view seat).records
         records_same = erased.records ∙ s.erased.records
@@ -112,10 +109,10 @@ module _ {T : Type 0} where
         all_within : Each (λ (r : Record). r.slot < slots) (view seat).records
         all_within = rw (← records_same) within
 
-        pub hides_on : (next : Walk) → next.probe ≡ (walk.probe + walk.stride) % 2 ^ 64
+        pub hides_on : {next : Walk} → next.probe ≡ (walk.probe + walk.stride) % 2 ^ 64
             → next.stride ≡ walk.stride
             → next.mask ≡ walk.mask → IsHiding slots key (i + 1) next sum seat counted
-        hides_on next probe stride mask = record {
+        hides_on probe stride mask = record {
           same = seat_then seat now counted s.same (seat_then now hid counted same same_then);
           erased = both;
           walking = record {
@@ -134,7 +131,7 @@ module _ {T : Type 0} where
         }
 
         pub hides_last : n ≡ 0 → AllDead key (view seat) (view counted)
-        hides_last over = ended slots key power i n (view seat) (view counted) over more_buried
+        hides_last over = ended slots key power i (view seat) (view counted) over more_buried
             (rw (← records_same, ← slot_at) held) all_within
 
         pub few_more : i < slots → (sum.hidden ≤ slots) × (sum.slots ≤ slots)
@@ -147,10 +144,10 @@ module _ {T : Type 0} where
             let total = is_sum.1 in
             (omega arith, omega arith)
 
-    pub hides_all : (i : ℕ) (walk : Walk) (all : Erased) (seat now : SeatOf T) → 0 < slots
+    pub hides_all : {i : ℕ} {walk : Walk} {all : Erased} {seat now : SeatOf T} → 0 < slots
         → slots ≤ i → i ≤ slots
         → IsHiding slots key i walk all seat now → AllDead key (view seat) (view now)
-    hides_all i walk all seat now some least most s =
+    hides_all {i} {walk} {all} {seat} {now} some least most s =
         let same : i ≡ slots = omega arith in
         all_seen slots key power (view seat) (view now)
         (subst (λ z. Buried key (IsBefore slots key z) (view seat) (view now)) same s.buried)

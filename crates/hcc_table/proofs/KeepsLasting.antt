@@ -147,9 +147,9 @@ module _ {T A : Type 0} (fits : T → Key → List ℕ → Type 0) (table : Rule
           seeks_one table (look_done slot lost.0 (view a)) a b lost.2 refl
 
   -- In a shard of one client a slot that showed nothing once shows nothing when the call began.
-  once_none : clients_of table ≡ 1 → (old last : SeatOf T) → ShowsNoneOnce table slot old last
+  once_none : clients_of table ≡ 1 → {old last : SeatOf T} → ShowsNoneOnce table slot old last
       → shown_at (world_at table old) slot ≡ None
-  once_none one old last h = sym (moment_shows table one old h.0 last h.1 slot) ∙ h.2
+  once_none one {old} {last} h = sym (moment_shows table one h.1 slot) ∙ h.2
 
   module _ {room : Bool} {before after : Effort} {old new : SeatOf T} where
     module _ (done : AtSlot) (h : PinsAt fits table name slot room done before after old new) where
@@ -169,11 +169,9 @@ module _ {T A : Type 0} (fits : T → Key → List ℕ → Type 0) (table : Rule
               none (h.unshown off).1))
 
       -- the look was a moment of what came with it
-      look_moment : (last : SeatOf T) → Seeks table h.looked last
+      look_moment : {last : SeatOf T} → Seeks table h.looked last
           → IsMomentOf table h.looked old last
-      look_moment last rest =
-          moment_of table (look_done slot h.seen (view old)) old old h.looked last
-          (led_none table old) h.looks.2 refl refl rest
+      look_moment {last} rest = moment_of table (led_none table old) h.looks.2 refl refl rest
 
       -- where it found the slot not visible, that showed nothing then
       look_none : is_visible h.seen ≡ false → shown_at (world_at table h.looked) slot ≡ None
@@ -186,9 +184,7 @@ module _ {T A : Type 0} (fits : T → Key → List ℕ → Type 0) (table : Rule
           → IsMomentOf table (h.shown on).0.reaches.by.mid old new
       add_moment on =
           let held = (h.shown on).0 in
-          moment_of table (acquire_done slot 1 name held.word (view h.looked)) old h.looked
-          held.reaches.by.mid new (looks_led table slot h.seen old h.looked h.looks)
-          held.reaches.by.adds refl refl (added_seek held)
+          moment_of table (looks_led table h.looks) held.reaches.by.adds refl refl (added_seek held)
 
     -- What a walk holds, holds not or frees at a slot.
     pub pins_last : (done : AtSlot) → PinsAt fits table name slot room done before after old new
@@ -209,7 +205,7 @@ module _ {T A : Type 0} (fits : T → Key → List ℕ → Type 0) (table : Rule
         by true on = added on (is_visible (h.shown on).0.word) refl
         by false off = (
           h.looked,
-          look_moment Nothing h new (frees_seek (h.unshown off).1),
+          look_moment Nothing h (frees_seek (h.unshown off).1),
           look_none Nothing h off,
         )
     pins_last (Held pin) h = by (is_visible h.seen) refl
@@ -260,7 +256,7 @@ module _ {T A : Type 0} (fits : T → Key → List ℕ → Type 0) (table : Rule
           h.looked,
           (
             h.looked,
-            look_moment (Freed charge) h h.looked (seeks_none table h.looked),
+            look_moment (Freed charge) h (seeks_none table h.looked),
             look_none (Freed charge) h off,
           ),
           freed (h.unshown off).1,
@@ -270,21 +266,21 @@ module _ {T A : Type 0} (fits : T → Key → List ℕ → Type 0) (table : Rule
     module _ (one : clients_of table ≡ 1) where
       pub pins_shown : (done : AtSlot) → PinsAt fits table name slot room done before after old new
           → IsShownBy (shown_at (world_at table old) slot) name done (view new)
-      pins_shown Nothing h = once_none one old new (pins_last Nothing h)
+      pins_shown Nothing h = once_none one (pins_last Nothing h)
       pins_shown (Held pin) h =
           let there = some_and (record_in name (view new).records) _ (pins_last (Held pin) h) in
-          subst (λ o. IsSomeAnd o
-          (λ (r : Record). shown_at (world_at table old) slot ≡ Some r.entry)) (sym there.1)
-          (sym (moment_shows table one old there.2.0 new there.2.1 slot) ∙ there.2.2)
+          subst
+          (λ o. IsSomeAnd o (λ (r : Record). shown_at (world_at table old) slot ≡ Some r.entry))
+          (sym there.1) (sym (moment_shows table one there.2.1 slot) ∙ there.2.2)
       pins_shown (Freed charge) h =
           let last = pins_last (Freed charge) h in
-          once_none one old last.0 last.1
+          once_none one last.1
 
       -- and takes away nothing that is shown.
       pub pins_stay : (done : AtSlot) → PinsAt fits table name slot room done before after old new
           → ShowsSame (world_at table old) (world_at table new)
-      pins_stay Nothing h = alone_shows table one old new (unfreed_seek Nothing h refl)
-      pins_stay (Held pin) h = alone_shows table one old new (unfreed_seek (Held pin) h refl)
+      pins_stay Nothing h = alone_shows table one (unfreed_seek Nothing h refl)
+      pins_stay (Held pin) h = alone_shows table one (unfreed_seek (Held pin) h refl)
       pins_stay (Freed charge) h = λ s. by s (is_visible h.seen) refl
         where
           none : shown_at (world_at table old) slot ≡ None
@@ -294,15 +290,15 @@ module _ {T A : Type 0} (fits : T → Key → List ℕ → Type 0) (table : Rule
               → (s : ℕ) → (s ≡ slot) ⊎ ¬ (s ≡ slot)
               → shown_at (world_at table new) s ≡ shown_at (world_at table old) s
           left f s here =
-              let but = takes_show table one slot h.seen None (room && is_due false h.seen)
-              (Some charge) h.looked new f.takes f.tries.won.0 in
+              let but = takes_show table one (room && is_due false h.seen) (Some charge) f.takes
+              f.tries.won.0 in
               elim here [
                 | inl is ↦
                     subst (λ n. shown_at (world_at table new) n ≡ shown_at (world_at table old) n)
                     (sym is) (but.gone ∙ sym none)
                 | inr other ↦
                     but.others s other
-                    ∙ alone_shows table one old h.looked (looked (Freed charge) h) s
+                    ∙ alone_shows table one (looked (Freed charge) h) s
               ]
 
           by : (s : ℕ) → (b : Bool) → is_visible h.seen ≡ b

@@ -11,8 +11,8 @@ use Rattle.hcc_rule.proofs.Basics.Lists.{each_append}
 use Rattle.hcc_table.specs.Steps.{Adds, AddsUnmarked, Among, Begins, BeginsWithTwo, Ends, MakesTwo, after}
 
 -- a weight isn't the hit bit, and neither is a word near its end
-pub light : (weight : ℕ) → weight ≤ MOST_WEIGHT → ¬ (weight ≡ HIT_BIT)
-light weight few same = omega arith
+pub light : {weight : ℕ} → weight ≤ MOST_WEIGHT → ¬ (weight ≡ HIT_BIT)
+light few same = omega arith
 
 pub unlike_hit : (word : ℕ) → IsCorrectable word → ¬ (word ≡ HIT_BIT)
 unfolding releases_of
@@ -53,10 +53,10 @@ module _ {T : Type 0} where
   unmarked_adds a b h = (h.0, h.1)
 
   -- a load that found something, a give, and the like
-  pub unmarked_zero : (address found : ℕ) (a b : SeatOf T)
+  pub unmarked_zero : {address found : ℕ} {a b : SeatOf T}
       → Makes address 0 0 found a b → AddsUnmarked a b
-  unmarked_zero address found a b h =
-      unmarked_one (atomic address 0 0 found) a b h.step (light 0 (omega arith))
+  unmarked_zero {address} {found} {a} {b} h =
+      unmarked_one (atomic address 0 0 found) a b h.step (light (omega arith))
 
   -- one step after another
   pub makes_two : (one two : Atomic) (a b c : SeatOf T) → steps b ≡ after (steps a) one

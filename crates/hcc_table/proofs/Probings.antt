@@ -55,10 +55,11 @@ each_front P (x ∷ xs) ys h = (h.0, each_front P xs ys h.1)
 
 module _ {T P : Type 0} (slots : ℕ) (key : Key)
     (At : (slot : ℕ) → P → Effort → Effort → SeatOf T → SeatOf T → Type 0) where
-  probes_then : (i j : ℕ) (ps : List P) (p : P) (e f g : Effort) (a b c : SeatOf T)
+  probes_then : (i : ℕ) {j : ℕ} (ps : List P) {p : P} (e : Effort) {f g : Effort} (a : SeatOf T) {b
+      c : SeatOf T}
       → AtProbes slots key At i ps e f a b → j ≡ i + length ps
       → At (probe_slot slots key j) p f g b c → AtProbes slots key At i (ps ++ p ∷ []) e g a c
-  probes_then i j [] p e f g a b c none here one = (
+  probes_then i {j} [] {p} e {f} {g} a {b} {c} none here one = (
     g,
     c,
     subst (λ z. At (probe_slot slots key i) p e g z c) none.1
@@ -69,11 +70,11 @@ module _ {T P : Type 0} (slots : ℕ) (key : Key)
     where
       same : j ≡ i
       same = omega arith
-  probes_then i j (q ∷ ps) p e f g a b c first here one = (
+  probes_then i {j} (q ∷ ps) {p} e {f} {g} a {b} {c} first here one = (
     first.0,
     first.1,
     first.2,
-    probes_then (i + 1) j ps p first.0 f g first.1 b c first.3 shifted one,
+    probes_then (i + 1) ps first.0 first.1 first.3 shifted one,
   )
     where
       shifted : j ≡ i + 1 + length ps
@@ -96,8 +97,7 @@ module _ {T P : Type 0} (slots : ℕ) (key : Key)
       -- one probe more
       pub more_seen : AtProbes slots key At 0 (h.seen ++ p ∷ []) e g a c
       more_seen =
-          probes_then 0 i h.seen p e f g a b c h.probes at
-          (subst (λ z. At z p f g b c) there one)
+          probes_then 0 h.seen e a h.probes at (subst (λ z. At z p f g b c) there one)
         where
           at : i ≡ 0 + length h.seen
           at = omega (arith, h.long)
@@ -110,13 +110,13 @@ module _ {T P : Type 0} (slots : ℕ) (key : Key)
         goes_on = each_append Goes h.seen (p ∷ []) h.goes_on (goes, tt);
       }
 
-module _ {T A : Type 0} (table : RuleTable T A) (key : Key) (slot : ℕ) where
+module _ {T A : Type 0} (table : RuleTable T A) {key : Key} (slot : ℕ) where
   -- loads of both halves of a key
-  pub loads_key : (w0 w1 : ℕ) (a b c : SeatOf T)
+  pub loads_key : {w0 w1 : ℕ} {a b c : SeatOf T}
       → Makes (address_of_data table slot KEY0) 0 0 w0 a b
       → Makes (address_of_data table slot KEY1) 0 0 w1 b c
       → w0 ≡ key.w0 → w1 ≡ key.w1 → LoadsKey table key slot a c
-  loads_key w0 w1 a b c first then is same =
+  loads_key {w0} {w1} {a} {b} {c} first then is same =
       makes_two (atomic (address_of_data table slot KEY0) 0 0 key.w0)
       (atomic (address_of_data table slot KEY1) 0 0 key.w1) a b c
       (subst (λ n. steps b ≡ after (steps a) (atomic (address_of_data table slot KEY0) 0 0 n)) is
@@ -125,10 +125,10 @@ module _ {T A : Type 0} (table : RuleTable T A) (key : Key) (slot : ℕ) where
       then.step)
 
   -- the first half was another, or the second
-  pub first_other : (w0 : ℕ) (a b : SeatOf T)
+  pub first_other : {w0 : ℕ} {a b : SeatOf T}
       → Makes (address_of_data table slot KEY0) 0 0 w0 a b → ¬ (w0 ≡ key.w0)
       → LoadsOther table key slot a b
-  first_other w0 a b made other =
+  first_other {w0} {a} {b} made other =
       inl (
         w0,
         other,
@@ -136,11 +136,11 @@ module _ {T A : Type 0} (table : RuleTable T A) (key : Key) (slot : ℕ) where
             made.step (adds_none b b refl),
       )
 
-  pub second_other : (w0 w1 : ℕ) (a b c : SeatOf T)
+  pub second_other : {w0 w1 : ℕ} {a b c : SeatOf T}
       → Makes (address_of_data table slot KEY0) 0 0 w0 a b
       → Makes (address_of_data table slot KEY1) 0 0 w1 b c → ¬ (w1 ≡ key.w1)
       → LoadsOther table key slot a c
-  second_other w0 w1 a b c first then other =
+  second_other {w0} {w1} {a} {b} {c} first then other =
       inr (
         w1,
         other,
@@ -196,9 +196,9 @@ module _ {T A : Type 0} (fits : T → Key → List ℕ → Type 0) (table : Rule
         (λ (p : Probe). ¬ (p.displacement ≡ 0)) i slot here e f g old now new h there probed some
 
     -- or ends here.
-    pub misses_here : (all : Effort) → n ≡ 0 → VisitedSlots (i + 1) g all
+    pub misses_here : {all : Effort} → n ≡ 0 → VisitedSlots (i + 1) g all
         → Misses fits table key name e all old new
-    misses_here all none visited = record {
+    misses_here {all} none visited = record {
       earlier = h.seen;
       last = here;
       between = g;
@@ -210,10 +210,10 @@ module _ {T A : Type 0} (fits : T → Key → List ℕ → Type 0) (table : Rule
     }
 
   -- It ends after all probes.
-  pub misses_all : (i : ℕ) (e f all : Effort) (old now : SeatOf T) → HasPassed i e f old now
+  pub misses_all : {i : ℕ} {e f all : Effort} {old now : SeatOf T} → HasPassed i e f old now
       → 0 < i → i ≡ slots_of table → VisitedSlots i f all
       → Misses fits table key name e all old now
-  misses_all i e f all old now h some whole visited = record {
+  misses_all {i} {e} {f} {all} {old} {now} h some whole visited = record {
     earlier = split.0;
     last = split.1;
     between = f;
@@ -232,8 +232,8 @@ module _ {T A : Type 0} (fits : T → Key → List ℕ → Type 0) (table : Rule
       count = sym h.long ∙ ap length split.2 ∙ one_longer split.0 split.1
 
   -- It keeps a reference.
-  pub finds_here : (marks : Bool) (i slot word : ℕ) (e f g all : Effort)
-      (old now held new : SeatOf T) → HasPassed i e f old now
+  pub finds_here : {marks : Bool} {i slot word : ℕ} {e f g all : Effort}
+      {old now held new : SeatOf T} → HasPassed i e f old now
       → slot ≡ probe_slot (slots_of table) key i
       → Catches fits table key name (Looks table slot) slot 1 word f g now held
       → VisitedSlots (i + 1) g all
@@ -243,8 +243,8 @@ module _ {T A : Type 0} (fits : T → Key → List ℕ → Type 0) (table : Rule
       → (new ≡ held) ⊎ IsEvent table (mark_done name (view held)) held new
       → Sought (view held) (view new)
       → Finds fits table key name marks slot word e all old new
-  finds_here marks i slot word e f g all old now held new h there catches visited marked hit
-      unasked by kept = record {
+  finds_here {f = f} {g = g} {all = all} {now = now} {held = held} h there catches visited marked
+      hit unasked by kept = record {
         earlier = h.seen;
         between = f;
         mid = now;
@@ -262,7 +262,7 @@ module _ {T A : Type 0} (fits : T → Key → List ℕ → Type 0) (table : Rule
         kept = kept;
       }
 
-module _ {T : Type 0} (address : ℕ) (a b : SeatOf T) where
+module _ {T : Type 0} {address : ℕ} {a b : SeatOf T} where
   -- a mark, where there is one
   pub marks_add : (marks hit : Bool)
       → (marks ≡ true → hit ≡ false → MakesSome address HIT_BIT 0 a b)

@@ -49,8 +49,8 @@ joined_in stamp dead = by (list_any (is_stamp stamp) dead) refl
     by true is = is
     by false is = last dead
 
-module _ {T : Type 0} (fits : T → Key → List ℕ → Type 0) (room slot weight name word : ℕ)
-    (v u : View T) (h : Acquired fits room slot weight name word v u) where
+module _ {T : Type 0} {fits : T → Key → List ℕ → Type 0} {room slot weight name word : ℕ}
+    {v u : View T} (h : Acquired fits room slot weight name word v u) where
   -- an acquire of an entry is on record
   pub recorded : is_shareable word ≡ true → record_in name v.records ≡ None
       → (entry : Entry) × (record_in name u.records ≡ Some (record_of slot weight name word entry))
@@ -80,8 +80,8 @@ module _ {T : Type 0} (fits : T → Key → List ℕ → Type 0) (room slot weig
           }
 
   -- and what a try to relieve the counters leaves of that
-  pub reached_of : (w : View T) → Sought u w → Reached fits room slot weight name word v w
-  reached_of w then = record {
+  pub reached_of : {w : View T} → Sought u w → Reached fits room slot weight name word v w
+  reached_of {w} then = record {
     searched = searched_then v u w acquired_searched then.searched;
     stray = λ is. then.records ∙ ap (λ (z : View T). z.records) (h.stray is);
     got = λ is.

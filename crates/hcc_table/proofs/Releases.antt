@@ -93,14 +93,14 @@ module _ {T A : Type 0} (table : RuleTable T A) (one : clients_of table ≡ 1) w
   -- Calls that make and take no entry, and show and hide none.
   pub still_shows : (a b : SeatOf T) → GoesOnStill table a b
       → ShowsSame (world_at table a) (world_at table b)
-  still_shows = still_alone (option_and_then entry_shown) leaves_shown table one
+  still_shows = still_alone leaves_shown one
 
   -- An entry was taken, and its slot freed.
-  freed_shows : (slot charge : ℕ) (name : Option ℕ) (a took b : SeatOf T)
+  freed_shows : {slot charge : ℕ} {name : Option ℕ} (a : SeatOf T) {took : SeatOf T} (b : SeatOf T)
       → IsEvent table (free_event slot name charge (view a)) a took
       → Empties table (view a).client took b
       → ShowsBut slot (Some charge) (world_at table a) (world_at table b)
-  freed_shows slot charge name a took b event empties = record {
+  freed_shows {slot} {charge} {name} a {took} b event empties = record {
     others = λ s other. rest s ∙ told.0 s other;
     kept = tt;
     gone = rest slot ∙ ap (option_and_then entry_shown) told.1;
@@ -135,21 +135,21 @@ module _ {T A : Type 0} (table : RuleTable T A) (one : clients_of table ≡ 1) w
           ∙ ap (λ xs. option_and_then entry_shown (slice_get xs s)) kept.0
 
   -- To take an entry was tried where it was due.
-  pub takes_show : (slot word : ℕ) (name : Option ℕ) (due : Bool) (freed : Option ℕ)
-      (a b : SeatOf T) → TakesByWhereDue table slot word name due freed a b
+  pub takes_show : {slot word : ℕ} {name : Option ℕ} (due : Bool) (freed : Option ℕ) {a b : SeatOf
+      T} → TakesByWhereDue table slot word name due freed a b
       → IfSome freed (λ charge. due ≡ true)
       → ShowsBut slot freed (world_at table a) (world_at table b)
-  takes_show slot word name false (Some charge) a b h won = cc
-  takes_show slot word name false None a b h won =
+  takes_show false (Some charge) h won = cc
+  takes_show {slot} false None h won =
       let same = λ (s : ℕ). ap (λ z. shown_at (world_at table z) s) (h.1 refl) in
       record { others = λ s other. same s; kept = same slot; gone = tt }
-  takes_show slot word name true None a b h won =
+  takes_show {slot} true None {a} {b} h won =
       let lost = (h.0 refl).lost in
       let same = still_shows a b
       (goes_event table is_still (look_done slot lost.0 (view a)) a b lost.2 refl) in
       record { others = λ s other. same s; kept = same slot; gone = tt }
-  takes_show slot word name true (Some charge) a b h won =
-      let free = (h.0 refl).won in freed_shows slot charge name a free.0 b free.1 free.2
+  takes_show {slot} {word} {name} true (Some charge) {a} {b} h won =
+      let free = (h.0 refl).won in freed_shows a b free.1 free.2
 
   -- A release.
   pub releases_show : (slot name : ℕ) (room used erase : Bool) (freed : Option ℕ)
@@ -165,7 +165,7 @@ module _ {T A : Type 0} (table : RuleTable T A) (one : clients_of table ≡ 1) w
       same = still_shows a h.between (gives_still table used slot 1 name h.left a h.between h.gives)
 
       then : ShowsBut slot freed (world_at table h.between) (world_at table b)
-      then = takes_show slot h.left None _ freed h.between b h.takes h.due
+      then = takes_show _ freed h.takes h.due
 
       by : (o : Option ℕ)
           → IfNone o (shown_at (world_at table b) slot ≡ shown_at (world_at table h.between) slot)

@@ -40,13 +40,13 @@ no_more (k ∷ ks) = ap (λ z. k ∷ z) (no_more ks)
 
 module _ {T : Type 0} where
   -- a step that leaves all but what was looked at, seen dead and held
-  pub searched_by : (v w : View T) (o : Option Stamp)
+  pub searched_by : {v w : View T} (o : Option Stamp)
       → w ≡ record v {
         work = record v.work { looked = w.work.looked; dead = joined v.work.dead o };
         records = w.records;
       }
       → Searched v w
-  searched_by v w o same = record {
+  searched_by {v} {w} o same = record {
     same = same ∙ rw (met, dead, glimpse) refl;
     dead = λ stamp h. rw dead (grows_joined v.work.dead o stamp h);
     met = ([], met ∙ no_more v.met);

@@ -32,10 +32,10 @@ use Rattle.hcc_table.proofs.Shown.{bound, ruled, same_outcome}
 
 -- Hiding.
 
-held_is : (b : Bool) (o : Option Entry) (e : Entry) → (if b then o else None) ≡ Some e
+held_is : (b : Bool) (o : Option Entry) {e : Entry} → (if b then o else None) ≡ Some e
     → o ≡ Some e
-held_is true o e is = is
-held_is false o e is = cc
+held_is true o is = is
+held_is false o is = cc
 
 -- whether it was shown, by the reply
 hid_is : (a b : Bool) → (if a then replies.Hid else replies.Again)
@@ -57,17 +57,17 @@ hidden_held client name (slots.Empty strays) = refl
 hidden_held client name (slots.Building other strays) = refl
 hidden_held client name (slots.Shareable r) = refl
 
-shown_before : (client name : ℕ) (seen : Slot) (entry : Entry) (b : Bool)
+shown_before : (client name : ℕ) (seen : Slot) {entry : Entry} (b : Bool)
     → entry_held client name seen ≡ Some entry
     → hidden seen ≡ (if b then replies.Hid else replies.Again)
     → entry_shown seen ≡ (if b then Some entry else None)
-shown_before client name (slots.Empty strays) entry b held reply =
-    let wrong = held_is (has_reference client name (slots.Empty strays)) None entry held in cc
-shown_before client name (slots.Building other strays) entry b held reply =
-    let wrong = held_is (has_reference client name (slots.Building other strays)) None entry held in
+shown_before client name (slots.Empty strays) {entry} b held reply =
+    let wrong = held_is (has_reference client name (slots.Empty strays)) None held in cc
+shown_before client name (slots.Building other strays) {entry} b held reply =
+    let wrong = held_is (has_reference client name (slots.Building other strays)) None held in
     cc
-shown_before client name (slots.Shareable r) entry b held reply =
-    let is = held_is (has_reference client name (slots.Shareable r)) (Some r.entry) entry held in
+shown_before client name (slots.Shareable r) {entry} b held reply =
+    let is = held_is (has_reference client name (slots.Shareable r)) (Some r.entry) held in
     let same : r.entry ≡ entry = cc in
     let shown : r.shown ≡ b = hid_is r.shown b reply in
     λ k. if shown k then Some (same k) else None
@@ -131,8 +131,7 @@ hide_tells w next client name slot b entry one later is held =
         before : shown_at w there ≡ (if b then Some entry else None)
         before =
             ap (option_and_then entry_shown) at
-            ∙ shown_before client name seen entry b
-            (sym (hidden_held client name seen)
+            ∙ shown_before client name seen b (sym (hidden_held client name seen)
             ∙ sym (ap (option_and_then (entry_held client name)) now)
             ∙ subst (λ s. held_at next client name s ≡ Some entry) (sym here) held)
             reply

@@ -10,21 +10,19 @@ use Rattle.hcc_table.proofs.HideSteps.{hid_none, hid_then, hides_every, hides_he
 use Rattle.hcc_table.proofs.Hidings.{hides_none, both, hides_on, hides_last, hides_all}
 use Rattle.hcc_table.proofs.hiding.hide.Goals as goal
 
-sum_of : (m a b c : ℕ) → c ≡ a + b → m * c ≡ m * a + m * b
-sum_of m a b c is = ap (λ (n : ℕ). m * n) is ∙ omega arith
+sum_of : (m a b : ℕ) {c : ℕ} → c ≡ a + b → m * c ≡ m * a + m * b
+sum_of m a b is = ap (λ (n : ℕ). m * n) is ∙ omega arith
 
 pub loop-init : goal.loop-init
 loop-init g c =
     let table = c.args.table.now in
     let told = c.begin-walk.ensures in (
-      hides_none table.geometry.slots c.args.key table.limits.power c.begin-walk.result
-          (record { hidden = 0; slots = 0; charge = 0 }) c.args.seat.now c.requires.idle told.probe
+      hides_none table.geometry.slots c.args.key table.limits.power c.requires.idle told.probe
           told.stride (rw (← c.geometry-slots.ensures) told.mask) refl,
       took_none c.args.effort.now,
       omega arith,
-      hid_none g.T.Tag.fits table c.args.key c.args.name
-          (has_room 1 (g.L.FreedList.shelf c.args.list.now)) c.args.effort.now c.args.seat.now,
-      hands_none (g.L.FreedList.shelf c.args.list.now) refl,
+      hid_none g.T.Tag.fits table c.args.key c.args.name,
+      hands_none refl,
     )
 
 pub returns-then-count_at-eq0-clause-view : goal.returns-then-count_at-eq0-clause-view
@@ -58,19 +56,16 @@ loop-preserved g c =
     let told = c.count_at.ensures in
     let next = c.next-walk.ensures in (
       hides_on c.args.table.now.geometry.slots c.args.key c.args.table.now.limits.power
-          c.loop.counter
-          c.count_at.result c.slot-slot.result c.loop.walk c.loop.all c.hide_at-here.result
-          c.with-all.result c.args.seat.now c.loop.seat c.loop.invariant.0 c.slot-slot.ensures
-          c.hide_at-here.new.seat c.count_at.new.seat here.seat told.seat here.view here.dead
-          here.few
-          (all.hidden, all.slots, all.charge) told.view told.held told.within c.next-walk.result
-          next.probe next.stride next.mask,
+          c.loop.counter c.count_at.result c.slot-slot.result c.loop.walk c.loop.all
+          c.hide_at-here.result c.with-all.result c.args.seat.now c.loop.seat c.loop.invariant.0
+          c.slot-slot.ensures c.hide_at-here.new.seat c.count_at.new.seat here.seat told.seat
+          here.view here.dead here.few (all.hidden, all.slots, all.charge) told.view told.held
+          told.within next.probe next.stride next.mask,
       visited,
       (let so_far = c.loop.invariant.2 in let hid = c.hide_at-here.ensures.steps in
           let one = told.step.one in
           let both = sum_of (c.args.table.now.geometry.slots + 4 + g.L.FreedList.loads)
-          c.loop.all.slots
-          c.hide_at-here.result.slots c.with-all.result.slots all.slots in
+          c.loop.all.slots c.hide_at-here.result.slots all.slots in
           omega arith),
       hid_then g.T.Tag.fits c.args.table.now c.args.key c.args.name c.loop.counter
           c.slot-slot.result here.does.0 c.count_at.result
@@ -93,29 +88,26 @@ loop-preserved g c =
         c.args.effort.now c.hide_at-here.new.effort
     visited =
         let probe = c.probes.ensures in
-        took_next c.loop.counter (2 * c.loop.counter) 2 (2 * (c.loop.counter + 1)) c.args.effort.now
-        c.loop.effort c.probes.new.self c.hide_at-here.new.effort c.loop.invariant.1 probe.probes
-        probe.corrections probe.lost c.hide_at-here.ensures.effort (omega arith)
+        took_next c.loop.counter (2 * c.loop.counter) 2 (2 * (c.loop.counter + 1))
+        c.hide_at-here.new.effort c.loop.invariant.1 probe.probes probe.corrections probe.lost
+        c.hide_at-here.ensures.effort (omega arith)
 
 pub returns-clause-dead : goal.returns-clause-dead
 returns-clause-dead g c =
     let table = c.args.table.now in
     let size = c.geometry-slots.ensures in
-    hides_all table.geometry.slots c.args.key table.limits.power c.loop.counter c.loop.walk
-    c.loop.all c.args.seat.now c.loop.seat (some_slots table.geometry.slots table.limits.power)
-    (rw (← size) c.loop-test.false) (rw (← size) c.loop.auto.counter-end) c.loop.invariant.0
+    hides_all table.geometry.slots c.args.key table.limits.power
+    (some_slots table.geometry.slots table.limits.power) (rw (← size) c.loop-test.false)
+    (rw (← size) c.loop.auto.counter-end) c.loop.invariant.0
 
 pub returns-then-count_at-eq0-clause-effort : goal.returns-then-count_at-eq0-clause-effort
 returns-then-count_at-eq0-clause-effort g c =
     let probe = c.probes.ensures in
     let size = c.geometry-slots.ensures in
     let low : c.loop.counter < c.args.table.now.geometry.slots = rw (← size) c.loop-test.true in
-    took_within (c.loop.counter + 1) (2 * (c.loop.counter + 1)) 1 c.args.table.now.geometry.slots
-    (2 * c.args.table.now.geometry.slots) c.args.effort.now c.hide_at-here.new.effort (omega arith)
-    (omega arith) (omega arith)
-    (took_next c.loop.counter (2 * c.loop.counter) 2 (2 * (c.loop.counter + 1)) c.args.effort.now
-    c.loop.effort c.probes.new.self c.hide_at-here.new.effort c.loop.invariant.1 probe.probes
-    probe.corrections probe.lost c.hide_at-here.ensures.effort (omega arith))
+    took_within (omega arith) (omega arith) (omega arith) (took_next c.loop.counter
+    (2 * c.loop.counter) 2 (2 * (c.loop.counter + 1)) c.hide_at-here.new.effort c.loop.invariant.1
+    probe.probes probe.corrections probe.lost c.hide_at-here.ensures.effort (omega arith))
 
 pub returns-clause-effort : goal.returns-clause-effort
 returns-clause-effort g c =
@@ -124,8 +116,7 @@ returns-clause-effort g c =
     let past : slots ≤ c.loop.counter = rw (← size) c.loop-test.false in
     let most : c.loop.counter ≤ slots = rw (← size) c.loop.auto.counter-end in
     let some : 0 < slots = some_slots slots c.args.table.now.limits.power in
-    took_within c.loop.counter (2 * c.loop.counter) 1 slots (2 * slots) c.args.effort.now
-    c.loop.effort (omega arith) (omega arith) (omega arith) c.loop.invariant.1
+    took_within (omega arith) (omega arith) (omega arith) c.loop.invariant.1
 
 pub returns-then-count_at-eq0-clause-hides : goal.returns-then-count_at-eq0-clause-hides
 returns-then-count_at-eq0-clause-hides g c =
@@ -151,10 +142,8 @@ returns-clause-hides g c =
     let past : slots ≤ c.loop.counter = rw (← size) c.loop-test.false in
     let most : c.loop.counter ≤ slots = rw (← size) c.loop.auto.counter-end in
     let some : 0 < slots = some_slots slots c.args.table.now.limits.power in
-    hides_every g.T.Tag.fits c.args.table.now c.args.key c.args.name c.loop.counter
-    (has_room 1 (g.L.FreedList.shelf c.loop.list)) c.loop.all
-    c.args.effort.now c.loop.effort c.args.seat.now c.loop.seat c.loop.invariant.3 (omega arith)
-    (omega arith)
+    hides_every g.T.Tag.fits c.args.table.now c.args.key c.args.name c.loop.invariant.3
+    (omega arith) (omega arith)
 
 pub returns-then-count_at-eq0-clause-frees : goal.returns-then-count_at-eq0-clause-frees
 returns-then-count_at-eq0-clause-frees g c =
@@ -166,14 +155,13 @@ returns-then-count_at-eq0-clause-frees g c =
     let hid = c.hide_at-here.ensures.steps in
     let one = c.count_at.ensures.step.one in
     let both = sum_of (slots + 4 + g.L.FreedList.loads) c.loop.all.slots c.hide_at-here.result.slots
-    c.with-all.result.slots c.with-all.ensures.slots in
+    c.with-all.ensures.slots in
     record {
       visited = c.loop.counter + 1;
       within = omega arith;
       counted = (took_next c.loop.counter (2 * c.loop.counter) 2 (2 * (c.loop.counter + 1))
-          c.args.effort.now c.loop.effort c.probes.new.self c.hide_at-here.new.effort
-          c.loop.invariant.1 probe.probes probe.corrections probe.lost c.hide_at-here.ensures.effort
-          (omega arith)).0;
+          c.hide_at-here.new.effort c.loop.invariant.1 probe.probes probe.corrections probe.lost
+          c.hide_at-here.ensures.effort (omega arith)).0;
       steps = omega arith;
     }
 
@@ -199,7 +187,7 @@ returns-then-count_at-eq0-clause-steps g c =
     let hid = c.hide_at-here.ensures.steps in
     let one = c.count_at.ensures.step.one in
     let both = sum_of (slots + 4 + g.L.FreedList.loads) c.loop.all.slots c.hide_at-here.result.slots
-    c.with-all.result.slots c.with-all.ensures.slots in
+    c.with-all.ensures.slots in
     let few : c.with-all.result.slots ≤ c.loop.counter + 1 =
     (let old = c.loop.invariant.0.fewer in let here = c.hide_at-here.ensures.few.1 in
     let all = c.with-all.ensures.slots in omega arith) in
@@ -208,9 +196,8 @@ returns-then-count_at-eq0-clause-steps g c =
       visited = c.loop.counter + 1;
       within = omega arith;
       counted = (took_next c.loop.counter (2 * c.loop.counter) 2 (2 * (c.loop.counter + 1))
-          c.args.effort.now c.loop.effort c.probes.new.self c.hide_at-here.new.effort
-          c.loop.invariant.1 probe.probes probe.corrections probe.lost c.hide_at-here.ensures.effort
-          (omega arith)).0;
+          c.hide_at-here.new.effort c.loop.invariant.1 probe.probes probe.corrections probe.lost
+          c.hide_at-here.ensures.effort (omega arith)).0;
       steps = omega arith;
     }
 

@@ -21,9 +21,8 @@ loop-slot-init g c =
     let table = c.args.table.now in
     let size = c.geometry-slots.ensures in
     let told = c.begin-walk.ensures in (
-      tries_first table.geometry.slots c.args.draft c.args.value.now table.limits.power
-          c.begin-walk.result
-          c.args.seat.now told.probe told.stride (rw (← size) told.mask) c.requires.trail,
+      tries_first table.geometry.slots c.args.draft c.args.value.now table.limits.power told.probe
+          told.stride (rw (← size) told.mask) c.requires.trail,
       took_none c.args.effort.now,
       omega arith,
       adds_none c.args.seat.now c.args.seat.now refl,
@@ -36,16 +35,16 @@ returns-in-Placed-clause-view g c =
     let table = c.args.table.now in
     tries_placed table.geometry.slots c.args.draft c.args.value.now table.limits.power
     c.loop-slot.passed c.slot-slot.result c.loop-slot.walk c.args.seat.now c.loop-slot.seat
-    c.loop-slot.invariant.0 c.slot-slot.ensures c.insert_at.new.seat c.insert_at.ensures.seat
-    c.in-Placed.slot c.in-Placed.ensures.view c.requires.trail
+    c.loop-slot.invariant.0 c.slot-slot.ensures c.insert_at.ensures.seat c.in-Placed.ensures.view
+    c.requires.trail
 
 pub returns-in-Matched-clause-view : goal.returns-in-Matched-clause-view
 returns-in-Matched-clause-view g c =
     let table = c.args.table.now in
     tries_matched table.geometry.slots c.args.draft c.args.value.now table.limits.power
     c.loop-slot.passed c.slot-slot.result c.loop-slot.walk c.args.seat.now c.loop-slot.seat
-    c.loop-slot.invariant.0 c.slot-slot.ensures c.insert_at.new.seat c.insert_at.ensures.seat
-    c.take_back.new.seat c.in-Matched.ensures.view c.requires.trail c.take_back.ensures.view
+    c.loop-slot.invariant.0 c.slot-slot.ensures c.insert_at.ensures.seat c.take_back.new.seat
+    c.in-Matched.ensures.view c.requires.trail c.take_back.ensures.view
 
 pub returns-then-passed-slots-clause-view : goal.returns-then-passed-slots-clause-view
 returns-then-passed-slots-clause-view g c =
@@ -56,8 +55,8 @@ returns-then-passed-slots-clause-view g c =
     rw (← size) (sym c.if-passed-slots.true) in
     tries_last table.geometry.slots c.args.draft c.args.value.now table.limits.power
     c.loop-slot.passed c.slot-slot.result c.loop-slot.walk c.args.seat.now c.loop-slot.seat
-    c.loop-slot.invariant.0 c.slot-slot.ensures c.insert_at.new.seat c.insert_at.ensures.seat
-    told.0 told.2 c.take_back-then-passed-slots.new.seat told.1 (sym least) c.requires.trail
+    c.loop-slot.invariant.0 c.slot-slot.ensures c.insert_at.ensures.seat told.0 told.2
+    c.take_back-then-passed-slots.new.seat told.1 (sym least) c.requires.trail
     c.take_back-then-passed-slots.ensures.view
 
 pub pass_at-requires-clause-room : goal.pass_at-requires-clause-room
@@ -78,12 +77,10 @@ loop-slot-preserved g c =
     rw (← size) c.if-passed-slots.false in
     let inside = c.loop-slot.invariant.0.inside in (
       tries_next table.geometry.slots c.args.draft c.args.value.now table.limits.power
-          c.loop-slot.passed
-          c.slot-slot.result c.loop-slot.walk c.args.seat.now c.loop-slot.seat
-          c.loop-slot.invariant.0 c.slot-slot.ensures c.insert_at.new.seat c.insert_at.ensures.seat
-          told.0 told.2 c.pass_at.new.seat c.next-walk.result (omega arith) told.1
-          c.pass_at.ensures.seat
-          c.pass_at.ensures.view next.probe next.stride next.mask,
+          c.loop-slot.passed c.slot-slot.result c.loop-slot.walk c.args.seat.now c.loop-slot.seat
+          c.loop-slot.invariant.0 c.slot-slot.ensures c.insert_at.ensures.seat told.0 told.2
+          (omega arith) told.1 c.pass_at.ensures.seat c.pass_at.ensures.view next.probe next.stride
+          next.mask,
       visited,
       (let so_far = c.loop-slot.invariant.2 in let tried = c.in-NoSlot.ensures.steps in
           let one = c.pass_at.ensures.step.1.one in omega arith),
@@ -92,10 +89,7 @@ loop-slot-preserved g c =
           c.insert_at.ensures.adds)
           (adds_one _ c.insert_at.new.seat c.pass_at.new.seat c.pass_at.ensures.step.1.step),
       tried_then g.T.Tag.fits table c.args.draft.key c.args.name c.args.draft.countdown
-          c.loop-slot.passed c.slot-slot.result c.args.effort.now c.loop-slot.effort
-          c.probes.new.self c.insert_at.new.effort c.args.seat.now c.loop-slot.seat
-          c.insert_at.new.seat c.pass_at.new.seat c.loop-slot.invariant.4
-          (c.slot-slot.ensures ∙ c.loop-slot.invariant.0.walking.probe)
+          c.loop-slot.invariant.4 (c.slot-slot.ensures ∙ c.loop-slot.invariant.0.walking.probe)
           (c.probes.ensures.probes, c.probes.ensures.corrections, c.probes.ensures.lost)
           c.in-NoSlot.ensures.tries c.pass_at.ensures.step c.pass_at.ensures.view
           c.pass_at.ensures.event,
@@ -105,42 +99,33 @@ loop-slot-preserved g c =
         c.args.effort.now c.insert_at.new.effort
     visited =
         let probe = c.probes.ensures in
-        took_next c.loop-slot.passed c.loop-slot.passed 1 (c.loop-slot.passed + 1) c.args.effort.now
-        c.loop-slot.effort c.probes.new.self c.insert_at.new.effort c.loop-slot.invariant.1
-        probe.probes probe.corrections probe.lost c.insert_at.ensures.effort (omega arith)
+        took_next c.loop-slot.passed c.loop-slot.passed 1 (c.loop-slot.passed + 1)
+        c.insert_at.new.effort c.loop-slot.invariant.1 probe.probes probe.corrections probe.lost
+        c.insert_at.ensures.effort (omega arith)
 
 pub returns-in-Placed-clause-effort : goal.returns-in-Placed-clause-effort
 returns-in-Placed-clause-effort g c =
     let probe = c.probes.ensures in
     let inside = c.loop-slot.invariant.0.inside in
-    took_within (c.loop-slot.passed + 1) (c.loop-slot.passed + 1) 1 c.args.table.now.geometry.slots
-    c.args.table.now.geometry.slots c.args.effort.now c.insert_at.new.effort (omega arith)
-    (omega arith) (omega arith)
-    (took_next c.loop-slot.passed c.loop-slot.passed 1 (c.loop-slot.passed + 1) c.args.effort.now
-    c.loop-slot.effort c.probes.new.self c.insert_at.new.effort c.loop-slot.invariant.1 probe.probes
-    probe.corrections probe.lost c.insert_at.ensures.effort (omega arith))
+    took_within (omega arith) (omega arith) (omega arith) (took_next c.loop-slot.passed
+    c.loop-slot.passed 1 (c.loop-slot.passed + 1) c.insert_at.new.effort c.loop-slot.invariant.1
+    probe.probes probe.corrections probe.lost c.insert_at.ensures.effort (omega arith))
 
 pub returns-in-Matched-clause-effort : goal.returns-in-Matched-clause-effort
 returns-in-Matched-clause-effort g c =
     let probe = c.probes.ensures in
     let inside = c.loop-slot.invariant.0.inside in
-    took_within (c.loop-slot.passed + 1) (c.loop-slot.passed + 1) 1 c.args.table.now.geometry.slots
-    c.args.table.now.geometry.slots c.args.effort.now c.insert_at.new.effort (omega arith)
-    (omega arith) (omega arith)
-    (took_next c.loop-slot.passed c.loop-slot.passed 1 (c.loop-slot.passed + 1) c.args.effort.now
-    c.loop-slot.effort c.probes.new.self c.insert_at.new.effort c.loop-slot.invariant.1 probe.probes
-    probe.corrections probe.lost c.insert_at.ensures.effort (omega arith))
+    took_within (omega arith) (omega arith) (omega arith) (took_next c.loop-slot.passed
+    c.loop-slot.passed 1 (c.loop-slot.passed + 1) c.insert_at.new.effort c.loop-slot.invariant.1
+    probe.probes probe.corrections probe.lost c.insert_at.ensures.effort (omega arith))
 
 pub returns-then-passed-slots-clause-effort : goal.returns-then-passed-slots-clause-effort
 returns-then-passed-slots-clause-effort g c =
     let probe = c.probes.ensures in
     let inside = c.loop-slot.invariant.0.inside in
-    took_within (c.loop-slot.passed + 1) (c.loop-slot.passed + 1) 1 c.args.table.now.geometry.slots
-    c.args.table.now.geometry.slots c.args.effort.now c.insert_at.new.effort (omega arith)
-    (omega arith) (omega arith)
-    (took_next c.loop-slot.passed c.loop-slot.passed 1 (c.loop-slot.passed + 1) c.args.effort.now
-    c.loop-slot.effort c.probes.new.self c.insert_at.new.effort c.loop-slot.invariant.1 probe.probes
-    probe.corrections probe.lost c.insert_at.ensures.effort (omega arith))
+    took_within (omega arith) (omega arith) (omega arith) (took_next c.loop-slot.passed
+    c.loop-slot.passed 1 (c.loop-slot.passed + 1) c.insert_at.new.effort c.loop-slot.invariant.1
+    probe.probes probe.corrections probe.lost c.insert_at.ensures.effort (omega arith))
 
 pub returns-in-Placed-clause-steps : goal.returns-in-Placed-clause-steps
 returns-in-Placed-clause-steps g c =
@@ -152,8 +137,7 @@ returns-in-Placed-clause-steps g c =
       visited = c.loop-slot.passed + 1;
       within = omega arith;
       counted = (took_next c.loop-slot.passed c.loop-slot.passed 1 (c.loop-slot.passed + 1)
-          c.args.effort.now c.loop-slot.effort c.probes.new.self c.insert_at.new.effort
-          c.loop-slot.invariant.1 probe.probes probe.corrections probe.lost
+          c.insert_at.new.effort c.loop-slot.invariant.1 probe.probes probe.corrections probe.lost
           c.insert_at.ensures.effort (omega arith)).0;
       steps = omega arith;
     }
@@ -172,8 +156,7 @@ returns-in-Matched-clause-steps g c =
       visited = c.loop-slot.passed + 1;
       within = omega arith;
       counted = (took_next c.loop-slot.passed c.loop-slot.passed 1 (c.loop-slot.passed + 1)
-          c.args.effort.now c.loop-slot.effort c.probes.new.self c.insert_at.new.effort
-          c.loop-slot.invariant.1 probe.probes probe.corrections probe.lost
+          c.insert_at.new.effort c.loop-slot.invariant.1 probe.probes probe.corrections probe.lost
           c.insert_at.ensures.effort (omega arith)).0;
       steps = omega arith;
     }
@@ -192,8 +175,7 @@ returns-then-passed-slots-clause-steps g c =
       visited = c.loop-slot.passed + 1;
       within = omega arith;
       counted = (took_next c.loop-slot.passed c.loop-slot.passed 1 (c.loop-slot.passed + 1)
-          c.args.effort.now c.loop-slot.effort c.probes.new.self c.insert_at.new.effort
-          c.loop-slot.invariant.1 probe.probes probe.corrections probe.lost
+          c.insert_at.new.effort c.loop-slot.invariant.1 probe.probes probe.corrections probe.lost
           c.insert_at.ensures.effort (omega arith)).0;
       steps = omega arith;
     }
@@ -201,10 +183,7 @@ returns-then-passed-slots-clause-steps g c =
 pub returns-in-Placed-clause-inserts : goal.returns-in-Placed-clause-inserts
 returns-in-Placed-clause-inserts g c =
     inserts_here g.T.Tag.fits c.args.table.now c.args.draft.key c.args.name c.args.draft.countdown
-    c.loop-slot.passed c.slot-slot.result (Placed c.in-Placed.slot) c.args.effort.now
-    c.loop-slot.effort c.probes.new.self c.insert_at.new.effort c.args.seat.now c.loop-slot.seat
-    c.insert_at.new.seat c.insert_at.new.seat c.loop-slot.invariant.4
-    (c.slot-slot.ensures ∙ c.loop-slot.invariant.0.walking.probe)
+    c.loop-slot.invariant.4 (c.slot-slot.ensures ∙ c.loop-slot.invariant.0.walking.probe)
     (c.probes.ensures.probes, c.probes.ensures.corrections, c.probes.ensures.lost)
     c.in-Placed.ensures.tries (λ none. cc) (λ slot same. refl)
     (adds_none c.insert_at.new.seat c.insert_at.new.seat refl)
@@ -214,14 +193,10 @@ returns-in-Placed-clause-inserts g c =
 pub returns-in-Matched-clause-inserts : goal.returns-in-Matched-clause-inserts
 returns-in-Matched-clause-inserts g c =
     inserts_here g.T.Tag.fits c.args.table.now c.args.draft.key c.args.name c.args.draft.countdown
-    c.loop-slot.passed c.slot-slot.result Matched c.args.effort.now
-    c.loop-slot.effort c.probes.new.self c.insert_at.new.effort c.args.seat.now c.loop-slot.seat
-    c.insert_at.new.seat c.take_back.new.seat c.loop-slot.invariant.4
-    (c.slot-slot.ensures ∙ c.loop-slot.invariant.0.walking.probe)
+    c.loop-slot.invariant.4 (c.slot-slot.ensures ∙ c.loop-slot.invariant.0.walking.probe)
     (c.probes.ensures.probes, c.probes.ensures.corrections, c.probes.ensures.lost)
     c.in-Matched.ensures.tries (λ none. cc) (λ slot same. cc) c.take_back.ensures.adds
-    c.take_back.ensures.past
-    (let back = c.take_back.ensures.steps in
+    c.take_back.ensures.past (let back = c.take_back.ensures.steps in
     let long =
     probed_long c.args.table.now.limits.power c.loop-slot.invariant.0
     c.in-Matched.ensures.view.0 in
@@ -233,10 +208,7 @@ returns-then-passed-slots-clause-inserts g c =
     let least : c.args.table.now.geometry.slots ≡ c.loop-slot.passed + 1 =
     rw (← size) (sym c.if-passed-slots.true) in
     inserts_here g.T.Tag.fits c.args.table.now c.args.draft.key c.args.name c.args.draft.countdown
-    c.loop-slot.passed c.slot-slot.result NoSlot c.args.effort.now
-    c.loop-slot.effort c.probes.new.self c.insert_at.new.effort c.args.seat.now c.loop-slot.seat
-    c.insert_at.new.seat c.take_back-then-passed-slots.new.seat c.loop-slot.invariant.4
-    (c.slot-slot.ensures ∙ c.loop-slot.invariant.0.walking.probe)
+    c.loop-slot.invariant.4 (c.slot-slot.ensures ∙ c.loop-slot.invariant.0.walking.probe)
     (c.probes.ensures.probes, c.probes.ensures.corrections, c.probes.ensures.lost)
     c.in-NoSlot.ensures.tries (λ none. sym least) (λ slot same. cc)
     c.take_back-then-passed-slots.ensures.adds c.take_back-then-passed-slots.ensures.past
@@ -250,8 +222,7 @@ pub returns-in-Placed-clause-probes : goal.returns-in-Placed-clause-probes
 returns-in-Placed-clause-probes g c = (
   c.loop-slot.passed,
   ap (λ (z : View g.row.T.Denot). z.saw) c.in-Placed.ensures.view.1 ∙ c.loop-slot.invariant.0.saw,
-  (took_next c.loop-slot.passed c.loop-slot.passed 1 (c.loop-slot.passed + 1)
-      c.args.effort.now c.loop-slot.effort c.probes.new.self c.insert_at.new.effort
+  (took_next c.loop-slot.passed c.loop-slot.passed 1 (c.loop-slot.passed + 1) c.insert_at.new.effort
       c.loop-slot.invariant.1 c.probes.ensures.probes c.probes.ensures.corrections
       c.probes.ensures.lost c.insert_at.ensures.effort (omega arith)).0,
 )
@@ -262,8 +233,7 @@ returns-in-Matched-clause-probes g c = (
   ap (λ (z : View g.row.T.Denot). z.saw) c.take_back.ensures.view
       ∙ (let one = c.in-Matched.ensures.view.1 in let old = c.loop-slot.invariant.0.saw in
       omega arith),
-  (took_next c.loop-slot.passed c.loop-slot.passed 1 (c.loop-slot.passed + 1)
-      c.args.effort.now c.loop-slot.effort c.probes.new.self c.insert_at.new.effort
+  (took_next c.loop-slot.passed c.loop-slot.passed 1 (c.loop-slot.passed + 1) c.insert_at.new.effort
       c.loop-slot.invariant.1 c.probes.ensures.probes c.probes.ensures.corrections
       c.probes.ensures.lost c.insert_at.ensures.effort (omega arith)).0,
 )
@@ -274,8 +244,7 @@ returns-then-passed-slots-clause-probes g c = (
   ap (λ (z : View g.row.T.Denot). z.saw) c.take_back-then-passed-slots.ensures.view
       ∙ (let one = c.in-NoSlot.ensures.view.1 in let old = c.loop-slot.invariant.0.saw in
       omega arith),
-  (took_next c.loop-slot.passed c.loop-slot.passed 1 (c.loop-slot.passed + 1)
-      c.args.effort.now c.loop-slot.effort c.probes.new.self c.insert_at.new.effort
+  (took_next c.loop-slot.passed c.loop-slot.passed 1 (c.loop-slot.passed + 1) c.insert_at.new.effort
       c.loop-slot.invariant.1 c.probes.ensures.probes c.probes.ensures.corrections
       c.probes.ensures.lost c.insert_at.ensures.effort (omega arith)).0,
 )

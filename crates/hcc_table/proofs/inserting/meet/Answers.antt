@@ -30,80 +30,66 @@ returns-then-not-has_entry-clause-dead g c = λ _.
 
 pub matches-requires-clause-holds : goal.matches-requires-clause-holds
 matches-requires-clause-holds g c = λ _.
-    holds_slot
-    g.T.Tag.fits c.args.table.now.geometry.room c.args.at.slot c.args.weight c.args.name
+    holds_slot g.T.Tag.fits c.args.table.now.geometry.room c.args.at.slot c.args.weight c.args.name
     c.reach-found.result c.args.key (view c.args.seat.now) (view c.args.seat.now)
     (view c.reach-found.new.seat) (searched_refl (view c.args.seat.now)) c.reach-found.ensures.view
-    (sym c.if-not-has_entry.ensures) c.requires.fresh (view c.reach-found.new.seat)
-    (searched_refl (view c.reach-found.new.seat))
+    (sym c.if-not-has_entry.ensures) c.requires.fresh (searched_refl (view c.reach-found.new.seat))
 
 pub let_go-requires-clause-holds : goal.let_go-requires-clause-holds
 let_go-requires-clause-holds g c =
-    holds_used
-    g.T.Tag.fits c.args.table.now.geometry.room c.args.at.slot c.args.weight c.args.name
+    holds_used g.T.Tag.fits c.args.table.now.geometry.room c.args.at.slot c.args.weight c.args.name
     c.reach-found.result c.args.key (view c.args.seat.now) (view c.args.seat.now)
     (view c.reach-found.new.seat) (searched_refl (view c.args.seat.now)) c.reach-found.ensures.view
-    (sym c.if-not-has_entry.ensures) c.requires.fresh (view c.matches.new.seat) c.is_counting.result
-    c.matches.ensures.view c.is_counting.ensures
+    (sym c.if-not-has_entry.ensures) c.requires.fresh c.matches.ensures.view c.is_counting.ensures
 
 pub returns-then-matches-clause-view : goal.returns-then-matches-clause-view
 returns-then-matches-clause-view g c =
-    given_back
-    g.T.Tag.fits c.args.table.now.geometry.room c.args.at.slot c.args.weight c.args.name
+    given_back g.T.Tag.fits c.args.table.now.geometry.room c.args.at.slot c.args.weight c.args.name
     c.reach-found.result c.args.key (view c.args.seat.now) (view c.args.seat.now)
     (view c.reach-found.new.seat) (searched_refl (view c.args.seat.now)) c.reach-found.ensures.view
     (sym c.if-not-has_entry.ensures) c.requires.fresh c.let_go.ensures.left.found
-    (view c.matches.new.seat) (view c.let_go.new.seat) c.matches.ensures.view
-    c.let_go.ensures.left.view
+    c.matches.ensures.view c.let_go.ensures.left.view
 
 pub returns-then-matches-clause-met : goal.returns-then-matches-clause-met
 returns-then-matches-clause-met g c = λ _.
-    met_there
-    g.T.Tag.fits c.args.table.now.geometry.room c.args.at.slot c.args.weight c.args.name
+    met_there g.T.Tag.fits c.args.table.now.geometry.room c.args.at.slot c.args.weight c.args.name
     c.reach-found.result c.args.key (view c.args.seat.now) (view c.args.seat.now)
     (view c.reach-found.new.seat) (searched_refl (view c.args.seat.now)) c.reach-found.ensures.view
     (sym c.if-not-has_entry.ensures) c.requires.fresh c.let_go.ensures.left.found
-    (view c.matches.new.seat) (view c.let_go.new.seat) (c.matches.ensures.shown c.if-matches.true)
-    (told_key
-    g.T.Tag.fits c.args.table.now.geometry.room c.args.at.slot c.args.weight c.args.name
-    c.reach-found.result c.args.key (view c.args.seat.now) (view c.args.seat.now)
-    (view c.reach-found.new.seat) (searched_refl (view c.args.seat.now)) c.reach-found.ensures.view
+    (view c.matches.new.seat) (c.matches.ensures.shown c.if-matches.true) (told_key g.T.Tag.fits
+    c.args.table.now.geometry.room c.args.at.slot c.args.weight c.args.name c.reach-found.result
+    c.args.key (view c.args.seat.now) (view c.args.seat.now) (view c.reach-found.new.seat)
+    (searched_refl (view c.args.seat.now)) c.reach-found.ensures.view
     (sym c.if-not-has_entry.ensures) c.requires.fresh (λ e. key_of e ≡ c.args.key)
     (c.matches.ensures.equal c.if-matches.true)) (c.matches.ensures.met c.if-matches.true)
     c.let_go.ensures.left.view
 
 pub give_at-requires-clause-holds : goal.give_at-requires-clause-holds
 give_at-requires-clause-holds g c =
-    holds
-    g.T.Tag.fits c.args.table.now.geometry.room c.args.at.slot c.args.weight c.args.name
+    holds g.T.Tag.fits c.args.table.now.geometry.room c.args.at.slot c.args.weight c.args.name
     c.reach-found.result c.args.key (view c.args.seat.now) (view c.args.seat.now)
     (view c.reach-found.new.seat) (searched_refl (view c.args.seat.now)) c.reach-found.ensures.view
-    (sym c.if-not-has_entry.ensures) c.requires.fresh (view c.matches.new.seat)
-    c.matches.ensures.view
+    (sym c.if-not-has_entry.ensures) c.requires.fresh c.matches.ensures.view
 
 pub returns-clause-view : goal.returns-clause-view
 returns-clause-view g c =
-    given_back
-    g.T.Tag.fits c.args.table.now.geometry.room c.args.at.slot c.args.weight c.args.name
+    given_back g.T.Tag.fits c.args.table.now.geometry.room c.args.at.slot c.args.weight c.args.name
     c.reach-found.result c.args.key (view c.args.seat.now) (view c.args.seat.now)
     (view c.reach-found.new.seat) (searched_refl (view c.args.seat.now)) c.reach-found.ensures.view
-    (sym c.if-not-has_entry.ensures) c.requires.fresh c.give_at.result (view c.matches.new.seat)
-    (view c.give_at.new.seat) c.matches.ensures.view c.give_at.ensures.view
+    (sym c.if-not-has_entry.ensures) c.requires.fresh c.give_at.result c.matches.ensures.view
+    c.give_at.ensures.view
 
 pub returns-clause-dead : goal.returns-clause-dead
 returns-clause-dead g c = λ _.
-    (missed_there
-    g.T.Tag.fits c.args.table.now.geometry.room c.args.at.slot c.args.weight c.args.name
-    c.reach-found.result c.args.key (view c.args.seat.now) (view c.args.seat.now)
+    (missed_there g.T.Tag.fits c.args.table.now.geometry.room c.args.at.slot c.args.weight
+    c.args.name c.reach-found.result c.args.key (view c.args.seat.now) (view c.args.seat.now)
     (view c.reach-found.new.seat) (searched_refl (view c.args.seat.now)) c.reach-found.ensures.view
-    (sym c.if-not-has_entry.ensures) c.requires.fresh c.give_at.result (view c.matches.new.seat)
-    (view c.give_at.new.seat) c.matches.ensures.view c.give_at.ensures.view
-    (λ shown. told_key
-    g.T.Tag.fits c.args.table.now.geometry.room c.args.at.slot c.args.weight c.args.name
-    c.reach-found.result c.args.key (view c.args.seat.now) (view c.args.seat.now)
-    (view c.reach-found.new.seat) (searched_refl (view c.args.seat.now)) c.reach-found.ensures.view
-    (sym c.if-not-has_entry.ensures) c.requires.fresh (λ e. ¬ (key_of e ≡ c.args.key))
-    (c.matches.ensures.other c.if-matches.false shown))).1
+    (sym c.if-not-has_entry.ensures) c.requires.fresh c.give_at.result c.matches.ensures.view
+    c.give_at.ensures.view (λ shown. told_key g.T.Tag.fits c.args.table.now.geometry.room
+    c.args.at.slot c.args.weight c.args.name c.reach-found.result c.args.key (view c.args.seat.now)
+    (view c.args.seat.now) (view c.reach-found.new.seat) (searched_refl (view c.args.seat.now))
+    c.reach-found.ensures.view (sym c.if-not-has_entry.ensures) c.requires.fresh
+    (λ e. ¬ (key_of e ≡ c.args.key)) (c.matches.ensures.other c.if-matches.false shown))).1
 
 pub returns-then-matches-clause-matched : goal.returns-then-matches-clause-matched
 returns-then-matches-clause-matched g c _ = (
@@ -200,7 +186,7 @@ returns-clause-passes g c _ = (
         (view c.args.seat.now) (view c.reach-found.new.seat) (searched_refl (view c.args.seat.now))
         c.reach-found.ensures.view (sym c.if-not-has_entry.ensures) c.requires.fresh
         (λ e. ¬ (key_of e ≡ c.args.key)) (c.matches.ensures.other c.if-matches.false shown);
-    loads = λ shown. other_then c.args.table.now c.args.key c.args.at.slot c.reach-found.new.seat
+    loads = λ shown. other_then c.args.table.now c.args.at.slot c.reach-found.new.seat
         c.matches.new.seat c.give_at.new.seat (c.matches.ensures.differs c.if-matches.false shown)
         (unmarked_adds c.matches.new.seat c.give_at.new.seat given);
   },
@@ -209,7 +195,7 @@ returns-clause-passes g c _ = (
     given : AddsUnmarked c.matches.new.seat c.give_at.new.seat
     given =
         unmarked_one _ c.matches.new.seat c.give_at.new.seat c.give_at.ensures.step.step
-        (light c.args.weight c.requires.weight.1)
+        (light c.requires.weight.1)
 
 pub returns-then-matches-clause-adds : goal.returns-then-matches-clause-adds
 returns-then-matches-clause-adds g c =

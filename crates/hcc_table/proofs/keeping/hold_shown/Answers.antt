@@ -36,17 +36,15 @@ pub give_at-requires-clause-holds : goal.give_at-requires-clause-holds
 give_at-requires-clause-holds g c =
     holds g.T.Tag.fits c.args.table.now.geometry.room c.args.at.slot 1 c.args.name
     c.reach-found.result no_key (view c.args.seat.now) (view c.args.seat.now)
-    (view c.reach-found.new.seat) (searched_refl (view c.args.seat.now))
-    c.reach-found.ensures.view (sym c.if-not-has_entry.ensures) c.requires.fresh
-    (view c.reach-found.new.seat) (searched_refl (view c.reach-found.new.seat))
+    (view c.reach-found.new.seat) (searched_refl (view c.args.seat.now)) c.reach-found.ensures.view
+    (sym c.if-not-has_entry.ensures) c.requires.fresh (searched_refl (view c.reach-found.new.seat))
 
 pub returns-then-not-is_shown-clause-none : goal.returns-then-not-is_shown-clause-none
 returns-then-not-is_shown-clause-none g c =
     given_back g.T.Tag.fits c.args.table.now.geometry.room c.args.at.slot 1 c.args.name
     c.reach-found.result no_key (view c.args.seat.now) (view c.args.seat.now)
-    (view c.reach-found.new.seat) (searched_refl (view c.args.seat.now))
-    c.reach-found.ensures.view (sym c.if-not-has_entry.ensures) c.requires.fresh
-    c.give_at.result (view c.reach-found.new.seat) (view c.give_at.new.seat)
+    (view c.reach-found.new.seat) (searched_refl (view c.args.seat.now)) c.reach-found.ensures.view
+    (sym c.if-not-has_entry.ensures) c.requires.fresh c.give_at.result
     (searched_refl (view c.reach-found.new.seat)) c.give_at.ensures.view
 
 pub returns-then-not-is_shown-clause-holds : goal.returns-then-not-is_shown-clause-holds
@@ -70,9 +68,8 @@ returns-then-not-is_shown-clause-holds g c = record {
 pub returns-then-not-is_shown-clause-adds : goal.returns-then-not-is_shown-clause-adds
 returns-then-not-is_shown-clause-adds g c =
     unmarked_then c.args.seat.now c.reach-found.new.seat c.give_at.new.seat
-    c.reach-found.ensures.adds
-    (unmarked_one _ c.reach-found.new.seat c.give_at.new.seat c.give_at.ensures.step.step
-    (light 1 (omega arith)))
+    c.reach-found.ensures.adds (unmarked_one _ c.reach-found.new.seat c.give_at.new.seat
+    c.give_at.ensures.step.step (light (omega arith)))
 
 pub returns-clause-found : goal.returns-clause-found
 returns-clause-found g c = (
@@ -99,7 +96,7 @@ returns-clause-holds g c = record {
         c.reach-found.result no_key (view c.args.seat.now) (view c.args.seat.now)
         (view c.reach-found.new.seat) (searched_refl (view c.args.seat.now))
         c.reach-found.ensures.view (sym c.if-not-has_entry.ensures) c.requires.fresh
-        (view c.reach-found.new.seat) (searched_refl (view c.reach-found.new.seat)),
+        (searched_refl (view c.reach-found.new.seat)),
   );
   unshown = λ away. neither (is_visible c.reach-found.result)
       (sym c.if-not-is_shown.ensures) away;

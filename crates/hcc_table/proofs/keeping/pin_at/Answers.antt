@@ -27,9 +27,8 @@ returns-in-Some-clause-view g c =
 
 pub returns-in-Some-clause-list : goal.returns-in-Some-clause-list
 returns-in-Some-clause-list g c =
-    hands_none (g.L.FreedList.shelf c.args.list.now)
-    (ap (λ (v : View g.row.T.Denot). v.gone)
-    (returns-in-Some-clause-view g c).3.searched.same)
+    hands_none
+    (ap (λ (v : View g.row.T.Denot). v.gone) (returns-in-Some-clause-view g c).3.searched.same)
 
 pub returns-in-Some-clause-pins : goal.returns-in-Some-clause-pins
 returns-in-Some-clause-pins g c = record {
@@ -55,7 +54,7 @@ returns-in-None-clause-view g c =
 
 pub returns-in-None-clause-list : goal.returns-in-None-clause-list
 returns-in-None-clause-list g c =
-    hands_none (g.L.FreedList.shelf c.args.list.now)
+    hands_none
     (ap (λ (v : View g.row.T.Denot). v.gone) (returns-in-None-clause-view g c).searched.same)
 
 pub returns-in-None-clause-pins : goal.returns-in-None-clause-pins
@@ -80,9 +79,7 @@ returns-in-Some-free_hidden-clause-view g c =
     let looked = looked_at c.args.slot c.look_at-seen.result (view c.args.seat.now)
     (view c.look_at-seen.new.seat) c.look_at-seen.ensures.view in (
       told.freed.0,
-      erases_first [] 1 c.in-Some-free_hidden.charge (view c.args.seat.now)
-          (view c.look_at-seen.new.seat) (view c.free_hidden.new.seat) looked.searched
-          told.freed.1,
+      erases_first looked.searched told.freed.1,
       told.freed.2 ∙ looked.records,
       holds_nothing c.look_at-seen.ensures.backs
           (due_unheld (takes_one (g.L.FreedList.shelf c.args.list.now)) c.look_at-seen.result
@@ -98,8 +95,7 @@ returns-in-None-free_hidden-clause-view g c =
 pub returns-in-None-free_hidden-clause-unmarked : goal.returns-in-None-free_hidden-clause-unmarked
 returns-in-None-free_hidden-clause-unmarked g c =
     unmarked_then c.args.seat.now c.look_at-seen.new.seat c.free_hidden.new.seat
-    (unmarked_zero _ _ c.args.seat.now c.look_at-seen.new.seat c.look_at-seen.ensures.step)
-    (frees_unmarked c.in-None-free_hidden.ensures.tries)
+    (unmarked_zero c.look_at-seen.ensures.step) (frees_unmarked c.in-None-free_hidden.ensures.tries)
 
 pub returns-in-None-free_hidden-clause-seeks : goal.returns-in-None-free_hidden-clause-seeks
 returns-in-None-free_hidden-clause-seeks g c =

@@ -19,8 +19,8 @@ use Rattle.hcc_table.proofs.optimistic.read_optimistic.Goals as goal
 
 pub loop-probe-init : goal.loop-probe-init
 loop-probe-init g c = (
-  begins c.args.table.now.geometry.slots c.args.key c.args.table.now.limits.power
-      c.begin-walk.result c.args.seat.now c.begin-walk.ensures.probe c.begin-walk.ensures.stride
+  begins c.args.table.now.geometry.slots c.args.key c.args.table.now.limits.power c.args.seat.now
+      c.begin-walk.ensures.probe c.begin-walk.ensures.stride
       (rw (← c.geometry-slots.ensures) c.begin-walk.ensures.mask),
   loads_none c.args.table.now c.args.seat.now,
   λ j low. absurd (omega arith),
@@ -56,34 +56,31 @@ returns-in-Some-clause-reads g c =
     let reads = c.in_ok-got.ensures.reads in
     let before : Reads table old now =
     record { loads = c.loop-probe.invariant.1; sought = c.loop-probe.invariant.0.sought } in
-    let there = there_earlier table c.args.key old hinted new
-    (reads_then table old now hinted before c.hint_at.ensures.by) reads.0 in
+    let there = there_earlier table c.args.key (reads_then table before c.hint_at.ensures.by)
+    reads.0 in
     let same = ap (λ (e : Entry). words_for (length e.value)) there.1 in
     let so_far = c.loop-probe.invariant.3 in
     let hints = c.hint_at.ensures.steps in
     let more = reads.1 in
-    let read = shown_there table c.args.key i c.slot-slot.result old new
-    (slot_is table.geometry.slots c.args.key table.limits.power i 0 c.slot-slot.result
-    c.loop-probe.walk old now c.loop-probe.invariant.0 c.slot-slot.ensures) low
+    let read = shown_there (slot_is table.geometry.slots c.args.key table.limits.power i 0
+    c.slot-slot.result c.loop-probe.walk old now c.loop-probe.invariant.0 c.slot-slot.ensures) low
     (λ j earlier.
-    lacks_within table c.args.key (probe_slot table.geometry.slots c.args.key j) old old now new
-    (led_none table old) (c.loop-probe.invariant.2 j earlier)
-    (loads_seek table now new
+    lacks_within table (led_none table old) (c.loop-probe.invariant.2 j earlier) (loads_seek table
+    now new
     (loads_then table now hinted new c.hint_at.ensures.by.loads c.read_hinted.ensures.by.loads)))
     there.0 (omega (arith, so_far, hints, more, same)) in
-    subst (λ b. ReadsOptimistic g.T.Tag.fits table c.args.key (is_useful c.args.as_use)
-    c.args.marks c.in_ok-got.got b c.read_hinted.new.buffer old new)
-    c.loop-probe.invariant.4
-    (reads_answered c.in_ok-got.got c.loop-probe.buffer c.read_hinted.new.buffer old new read)
+    subst (λ b. ReadsOptimistic g.T.Tag.fits table c.args.key (is_useful c.args.as_use) c.args.marks
+    c.in_ok-got.got b c.read_hinted.new.buffer old new) c.loop-probe.invariant.4
+    (reads_answered c.in_ok-got.got read)
 
 pub returns-in-Some-clause-effort : goal.returns-in-Some-clause-effort
 returns-in-Some-clause-effort g c =
     let size = c.geometry-slots.ensures in
     let low : c.loop-probe.probe < c.args.table.now.geometry.slots =
     rw (← size) c.loop-probe-test.true in
-    (took_visited (c.loop-probe.probe + 1) c.args.table.now.geometry.slots c.args.effort.now
-    c.loop-probe.effort c.probes.new.self c.loop-probe.invariant.5 c.probes.ensures.probes
-    c.probes.ensures.corrections c.probes.ensures.lost (omega arith) (omega arith)).0
+    (took_visited (c.loop-probe.probe + 1) c.args.table.now.geometry.slots c.loop-probe.invariant.5
+    c.probes.ensures.probes c.probes.ensures.corrections c.probes.ensures.lost (omega arith)
+    (omega arith)).0
 
 pub returns-in-Some-clause-steps : goal.returns-in-Some-clause-steps
 returns-in-Some-clause-steps g c =
@@ -100,9 +97,9 @@ returns-in-Some-clause-steps g c =
     record {
       visited = i + 1;
       within = omega arith;
-      counted = (took_visited (i + 1) c.args.table.now.geometry.slots c.args.effort.now
-          c.loop-probe.effort c.probes.new.self c.loop-probe.invariant.5 c.probes.ensures.probes
-          c.probes.ensures.corrections c.probes.ensures.lost (omega arith) (omega arith)).1;
+      counted = (took_visited (i + 1) c.args.table.now.geometry.slots c.loop-probe.invariant.5
+          c.probes.ensures.probes c.probes.ensures.corrections c.probes.ensures.lost (omega arith)
+          (omega arith)).1;
       steps = omega (arith, so_far, hints, more, few);
     }
 
@@ -129,11 +126,9 @@ returns-then-count_at-eq0-clause-view g c =
 pub returns-then-count_at-eq0-clause-loads : goal.returns-then-count_at-eq0-clause-loads
 returns-then-count_at-eq0-clause-loads g c =
     loads_then c.args.table.now c.args.seat.now c.loop-probe.seat c.count_at.new.seat
-    c.loop-probe.invariant.1
-    (loads_then c.args.table.now c.loop-probe.seat c.hint_at.new.seat c.count_at.new.seat
-    c.hint_at.ensures.by.loads
-    (count_loads c.args.table.now c.slot-slot.result c.count_at.result c.hint_at.new.seat
-    c.count_at.new.seat c.count_at.ensures.event))
+    c.loop-probe.invariant.1 (loads_then c.args.table.now c.loop-probe.seat c.hint_at.new.seat
+    c.count_at.new.seat c.hint_at.ensures.by.loads
+    (count_loads c.args.table.now c.count_at.ensures.event))
 
 pub returns-then-count_at-eq0-clause-reads : goal.returns-then-count_at-eq0-clause-reads
 returns-then-count_at-eq0-clause-reads g c =
@@ -146,27 +141,22 @@ returns-then-count_at-eq0-clause-reads g c =
           c.loop-probe.invariant.0 c.slot-slot.ensures c.hint_at.new.seat c.count_at.new.seat
           c.hint_at.ensures.seat told.seat (c.hint_at.ensures.by.sought, other.0) told.view
           told.held told.within c.if-count_at-eq0.true,
-      lacked_all table c.args.key c.loop-probe.probe c.slot-slot.result c.count_at.result
-          c.args.seat.now c.hint_at.new.seat c.count_at.new.seat
-          (lacked_more table c.args.key c.loop-probe.probe c.slot-slot.result c.args.seat.now
-          c.loop-probe.seat c.hint_at.new.seat c.count_at.new.seat c.loop-probe.invariant.2
-          (reads_led table c.args.seat.now c.loop-probe.seat
-          (record { loads = c.loop-probe.invariant.1; sought = c.loop-probe.invariant.0.sought }))
-          (slot_is table.geometry.slots c.args.key table.limits.power c.loop-probe.probe 0
+      lacked_all table c.args.key c.loop-probe.probe (lacked_more table c.args.key
+          c.loop-probe.invariant.2 (reads_led table (record {
+            loads = c.loop-probe.invariant.1;
+            sought = c.loop-probe.invariant.0.sought;
+          })) (slot_is table.geometry.slots c.args.key table.limits.power c.loop-probe.probe 0
           c.slot-slot.result c.loop-probe.walk c.args.seat.now c.loop-probe.seat
           c.loop-probe.invariant.0 c.slot-slot.ensures)
-          (loads_seek table c.loop-probe.seat c.hint_at.new.seat c.hint_at.ensures.by.loads)
-          other.1
-          (loads_seek table c.hint_at.new.seat c.count_at.new.seat
-          (count_loads table c.slot-slot.result c.count_at.result c.hint_at.new.seat
-          c.count_at.new.seat told.event)))
-          (led_then table c.args.seat.now c.loop-probe.seat c.hint_at.new.seat
-          (reads_led table c.args.seat.now c.loop-probe.seat
-          (record { loads = c.loop-probe.invariant.1; sought = c.loop-probe.invariant.0.sought }))
-          (reads_led table c.loop-probe.seat c.hint_at.new.seat c.hint_at.ensures.by))
-          (slot_is table.geometry.slots c.args.key table.limits.power c.loop-probe.probe 0
-          c.slot-slot.result c.loop-probe.walk c.args.seat.now c.loop-probe.seat
-          c.loop-probe.invariant.0 c.slot-slot.ensures) told.event c.if-count_at-eq0.true,
+          (loads_seek table c.loop-probe.seat c.hint_at.new.seat c.hint_at.ensures.by.loads) other.1
+          (loads_seek table c.hint_at.new.seat c.count_at.new.seat (count_loads table told.event)))
+          (led_then table (reads_led table (record {
+            loads = c.loop-probe.invariant.1;
+            sought = c.loop-probe.invariant.0.sought;
+          })) (reads_led table c.hint_at.ensures.by)) (slot_is table.geometry.slots c.args.key
+          table.limits.power c.loop-probe.probe 0 c.slot-slot.result c.loop-probe.walk
+          c.args.seat.now c.loop-probe.seat c.loop-probe.invariant.0 c.slot-slot.ensures) told.event
+          c.if-count_at-eq0.true,
     )
 
 pub returns-then-count_at-eq0-clause-effort : goal.returns-then-count_at-eq0-clause-effort
@@ -174,8 +164,7 @@ returns-then-count_at-eq0-clause-effort g c =
     let size = c.geometry-slots.ensures in
     let low : c.loop-probe.probe < c.args.table.now.geometry.slots =
     rw (← size) c.loop-probe-test.true in
-    (took_visited (c.loop-probe.probe + 1) c.args.table.now.geometry.slots c.args.effort.now
-    c.loop-probe.effort c.probes-then-count_at-eq0.new.self c.loop-probe.invariant.5
+    (took_visited (c.loop-probe.probe + 1) c.args.table.now.geometry.slots c.loop-probe.invariant.5
     c.probes-then-count_at-eq0.ensures.probes c.probes-then-count_at-eq0.ensures.corrections
     c.probes-then-count_at-eq0.ensures.lost (omega arith) (omega arith)).0
 
@@ -190,11 +179,9 @@ returns-then-count_at-eq0-clause-steps g c =
     record {
       visited = i + 1;
       within = omega arith;
-      counted = (took_visited (i + 1) c.args.table.now.geometry.slots c.args.effort.now
-          c.loop-probe.effort c.probes-then-count_at-eq0.new.self c.loop-probe.invariant.5
-          c.probes-then-count_at-eq0.ensures.probes
-          c.probes-then-count_at-eq0.ensures.corrections c.probes-then-count_at-eq0.ensures.lost
-          (omega arith) (omega arith)).1;
+      counted = (took_visited (i + 1) c.args.table.now.geometry.slots c.loop-probe.invariant.5
+          c.probes-then-count_at-eq0.ensures.probes c.probes-then-count_at-eq0.ensures.corrections
+          c.probes-then-count_at-eq0.ensures.lost (omega arith) (omega arith)).1;
       steps = omega (arith, so_far, more, last);
     }
 
@@ -207,30 +194,21 @@ loop-probe-preserved g c =
     let more = c.hint_at.ensures.steps in
     let last = told.step.one in (
       goes_on table.geometry.slots c.args.key table.limits.power c.loop-probe.probe
-          c.count_at.result c.slot-slot.result c.loop-probe.walk c.args.seat.now
-          c.loop-probe.seat c.loop-probe.invariant.0 c.slot-slot.ensures c.hint_at.new.seat
-          c.count_at.new.seat c.hint_at.ensures.seat told.seat
-          (c.hint_at.ensures.by.sought, other.0) told.view told.held told.within
-          c.next-walk.result c.next-walk.ensures.probe c.next-walk.ensures.stride
+          c.count_at.result c.slot-slot.result c.loop-probe.walk c.args.seat.now c.loop-probe.seat
+          c.loop-probe.invariant.0 c.slot-slot.ensures c.hint_at.new.seat c.count_at.new.seat
+          c.hint_at.ensures.seat told.seat (c.hint_at.ensures.by.sought, other.0) told.view
+          told.held told.within c.next-walk.ensures.probe c.next-walk.ensures.stride
           c.next-walk.ensures.mask,
       loads_then table c.args.seat.now c.loop-probe.seat c.count_at.new.seat
-          c.loop-probe.invariant.1
-          (loads_then table c.loop-probe.seat c.hint_at.new.seat c.count_at.new.seat
-          c.hint_at.ensures.by.loads
-          (count_loads table c.slot-slot.result c.count_at.result c.hint_at.new.seat
-          c.count_at.new.seat told.event)),
-      lacked_more table c.args.key c.loop-probe.probe c.slot-slot.result c.args.seat.now
-          c.loop-probe.seat c.hint_at.new.seat c.count_at.new.seat c.loop-probe.invariant.2
-          (reads_led table c.args.seat.now c.loop-probe.seat
+          c.loop-probe.invariant.1 (loads_then table c.loop-probe.seat c.hint_at.new.seat
+          c.count_at.new.seat c.hint_at.ensures.by.loads (count_loads table told.event)),
+      lacked_more table c.args.key c.loop-probe.invariant.2 (reads_led table
           (record { loads = c.loop-probe.invariant.1; sought = c.loop-probe.invariant.0.sought }))
           (slot_is table.geometry.slots c.args.key table.limits.power c.loop-probe.probe 0
           c.slot-slot.result c.loop-probe.walk c.args.seat.now c.loop-probe.seat
           c.loop-probe.invariant.0 c.slot-slot.ensures)
-          (loads_seek table c.loop-probe.seat c.hint_at.new.seat c.hint_at.ensures.by.loads)
-          other.1
-          (loads_seek table c.hint_at.new.seat c.count_at.new.seat
-          (count_loads table c.slot-slot.result c.count_at.result c.hint_at.new.seat
-          c.count_at.new.seat told.event)),
+          (loads_seek table c.loop-probe.seat c.hint_at.new.seat c.hint_at.ensures.by.loads) other.1
+          (loads_seek table c.hint_at.new.seat c.count_at.new.seat (count_loads table told.event)),
       omega (arith, so_far, more, last),
       c.loop-probe.invariant.4,
       c.loop-probe.invariant.5,
@@ -245,10 +223,8 @@ returns-clause-reads g c =
     let past : slots ≤ c.loop-probe.probe = rw (← size) c.loop-probe-test.false in
     let most : c.loop-probe.probe ≤ slots = rw (← size) c.loop-probe.auto.probe-end in (
       c.loop-probe.invariant.4,
-      ends_all slots c.args.key table.limits.power c.loop-probe.probe c.loop-probe.walk
-          c.args.seat.now c.loop-probe.seat some past most c.loop-probe.invariant.0,
-      lacked_each table c.args.key c.loop-probe.probe c.args.seat.now c.loop-probe.seat
-          (omega arith) c.loop-probe.invariant.2,
+      ends_all slots c.args.key table.limits.power some past most c.loop-probe.invariant.0,
+      lacked_each table c.args.key (omega arith) c.loop-probe.invariant.2,
     )
 
 pub returns-clause-effort : goal.returns-clause-effort
@@ -257,8 +233,7 @@ returns-clause-effort g c =
     let size = c.geometry-slots.ensures in
     let slots = table.geometry.slots in
     let some : 0 < slots = some_slots slots table.limits.power in
-    (took_visited slots slots c.args.effort.now c.loop-probe.effort c.probes-2.new.self
-    c.loop-probe.invariant.5 (rw (← size) c.probes-2.ensures.probes)
+    (took_visited slots slots c.loop-probe.invariant.5 (rw (← size) c.probes-2.ensures.probes)
     c.probes-2.ensures.corrections c.probes-2.ensures.lost (omega arith) (omega arith)).0
 
 pub returns-clause-steps : goal.returns-clause-steps
@@ -273,8 +248,8 @@ returns-clause-steps g c =
     record {
       visited = slots;
       within = omega arith;
-      counted = (took_visited slots slots c.args.effort.now c.loop-probe.effort
-          c.probes-2.new.self c.loop-probe.invariant.5 (rw (← size) c.probes-2.ensures.probes)
-          c.probes-2.ensures.corrections c.probes-2.ensures.lost (omega arith) (omega arith)).1;
+      counted = (took_visited slots slots c.loop-probe.invariant.5
+          (rw (← size) c.probes-2.ensures.probes) c.probes-2.ensures.corrections
+          c.probes-2.ensures.lost (omega arith) (omega arith)).1;
       steps = omega (arith, so_far, most);
     }

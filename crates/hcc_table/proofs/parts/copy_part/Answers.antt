@@ -8,13 +8,11 @@ use Rattle.hcc_table.proofs.parts.copy_part.Goals as goal
 pub returns-then-front-count-clause-bytes : goal.returns-then-front-count-clause-bytes
 returns-then-front-count-clause-bytes g c =
     part_joined (record_in c.args.held.pin.name (view c.args.seat.now).records) c.args.offset
-    c.copy_front-front.result (c.min-count.result - c.copy_front-front.result) c.min-count.result
-    (8 * ((c.args.offset + c.copy_front-front.result) / 8)) c.args.buffer.now
+    c.copy_front-front.result (c.min-count.result - c.copy_front-front.result) c.args.buffer.now
     c.copy_front-front.new.buffer c.copy_from.new.buffer (omega arith)
-    (omega (arith, c.copy_front-front.ensures.front))
-    (part_within (record_in c.args.held.pin.name (view c.args.seat.now).records) c.args.whole
-    c.args.offset c.min-count.result (omega (arith, c.min-count.ensures, c.saturating_sub.ensures))
-    c.requires.exact)
+    (omega (arith, c.copy_front-front.ensures.front)) (part_within
+    (record_in c.args.held.pin.name (view c.args.seat.now).records) c.args.whole c.args.offset
+    (omega (arith, c.min-count.ensures, c.saturating_sub.ensures)) c.requires.exact)
     c.copy_front-front.ensures.bytes
     (rw c.copy_front-front.ensures.view at c.copy_from.ensures.bytes)
 

@@ -16,10 +16,9 @@ pub read_at-charge-requires-clause-holds : goal.read_at-charge-requires-clause-h
 read_at-charge-requires-clause-holds g c =
     holds_slot g.T.Tag.fits c.args.table.now.geometry.room c.args.slot 1 c.args.name
     c.reach-found.result no_key (view c.args.seat.now) (view c.look_at-word.new.seat)
-    (view c.reach-found.new.seat)
-    (looked_at c.args.slot c.look_at-word.result _ _ c.look_at-word.ensures.view)
-    c.reach-found.ensures.view (sym c.if-not-has_entry-2.ensures) c.requires.fresh
-    (view c.reach-found.new.seat) (searched_refl (view c.reach-found.new.seat))
+    (view c.reach-found.new.seat) (looked_at c.args.slot c.look_at-word.result _ _
+    c.look_at-word.ensures.view) c.reach-found.ensures.view (sym c.if-not-has_entry-2.ensures)
+    c.requires.fresh (searched_refl (view c.reach-found.new.seat))
 
 pub give_at-requires-clause-holds : goal.give_at-requires-clause-holds
 give_at-requires-clause-holds g c =
@@ -27,8 +26,7 @@ give_at-requires-clause-holds g c =
     no_key (view c.args.seat.now) (view c.look_at-word.new.seat) (view c.reach-found.new.seat)
     (looked_at c.args.slot c.look_at-word.result _ _ c.look_at-word.ensures.view)
     c.reach-found.ensures.view (sym c.if-not-has_entry-2.ensures) c.requires.fresh
-    (view c.read_at-charge.new.seat) (read_there c.args.name CHARGE _ _
-    c.read_at-charge.ensures.view)
+    (read_there c.args.name CHARGE _ _ c.read_at-charge.ensures.view)
 
 pub returns-then-refs-eq0-2-clause-view : goal.returns-then-refs-eq0-2-clause-view
 returns-then-refs-eq0-2-clause-view g c =
@@ -36,8 +34,7 @@ returns-then-refs-eq0-2-clause-view g c =
     c.reach-found.result no_key (view c.args.seat.now) (view c.look_at-word.new.seat)
     (view c.reach-found.new.seat)
     (looked_at c.args.slot c.look_at-word.result _ _ c.look_at-word.ensures.view)
-    c.reach-found.ensures.view (sym c.if-not-has_entry-2.ensures) c.requires.fresh
-    c.give_at.result (view c.read_at-charge.new.seat) (view c.give_at.new.seat)
+    c.reach-found.ensures.view (sym c.if-not-has_entry-2.ensures) c.requires.fresh c.give_at.result
     (read_there c.args.name CHARGE _ _ c.read_at-charge.ensures.view) c.give_at.ensures.view
 
 pub returns-clause-view : goal.returns-clause-view
@@ -46,38 +43,32 @@ returns-clause-view g c =
     c.reach-found.result no_key (view c.args.seat.now) (view c.look_at-word.new.seat)
     (view c.reach-found.new.seat)
     (looked_at c.args.slot c.look_at-word.result _ _ c.look_at-word.ensures.view)
-    c.reach-found.ensures.view (sym c.if-not-has_entry-2.ensures) c.requires.fresh
-    c.give_at.result (view c.read_at-charge.new.seat) (view c.give_at.new.seat)
+    c.reach-found.ensures.view (sym c.if-not-has_entry-2.ensures) c.requires.fresh c.give_at.result
     (read_there c.args.name CHARGE _ _ c.read_at-charge.ensures.view) c.give_at.ensures.view
 
 pub returns-clause-held : goal.returns-clause-held
 returns-clause-held g c some =
     let entry = (c.reach-found.ensures.view.got (sym c.if-not-has_entry-2.ensures)).0 in
-    charged_each c.args.slot c.read_at-charge.result entry (view c.args.seat.now).records
-    (charge_is entry c.read_at-charge.result
-    (told_key g.T.Tag.fits c.args.table.now.geometry.room c.args.slot 1 c.args.name
-    c.reach-found.result no_key (view c.args.seat.now) (view c.look_at-word.new.seat)
-    (view c.reach-found.new.seat)
+    charged_each c.args.slot entry (view c.args.seat.now).records (charge_is entry (told_key
+    g.T.Tag.fits c.args.table.now.geometry.room c.args.slot 1 c.args.name c.reach-found.result
+    no_key (view c.args.seat.now) (view c.look_at-word.new.seat) (view c.reach-found.new.seat)
     (looked_at c.args.slot c.look_at-word.result _ _ c.look_at-word.ensures.view)
     c.reach-found.ensures.view (sym c.if-not-has_entry-2.ensures) c.requires.fresh
-    (λ e. IsDataWord e CHARGE c.read_at-charge.result) c.read_at-charge.ensures.word))
-    (one_entry g.T.Tag.fits c.args.table.now.geometry.room c.args.slot 1 c.args.name
-    c.reach-found.result no_key (view c.args.seat.now) (view c.look_at-word.new.seat)
-    (view c.reach-found.new.seat)
+    (λ e. IsDataWord e CHARGE c.read_at-charge.result) c.read_at-charge.ensures.word)) (one_entry
+    g.T.Tag.fits c.args.table.now.geometry.room c.args.slot 1 c.args.name c.reach-found.result
+    no_key (view c.args.seat.now) (view c.look_at-word.new.seat) (view c.reach-found.new.seat)
     (looked_at c.args.slot c.look_at-word.result _ _ c.look_at-word.ensures.view)
     c.reach-found.ensures.view (sym c.if-not-has_entry-2.ensures) c.requires.fresh)
 
 pub returns-clause-small : goal.returns-clause-small
 returns-clause-small g c =
     let got = c.reach-found.ensures.view.got (sym c.if-not-has_entry-2.ensures) in
-    rw (charge_is got.0 c.read_at-charge.result
-    (told_key g.T.Tag.fits c.args.table.now.geometry.room c.args.slot 1 c.args.name
-    c.reach-found.result no_key (view c.args.seat.now) (view c.look_at-word.new.seat)
+    rw (charge_is got.0 (told_key g.T.Tag.fits c.args.table.now.geometry.room c.args.slot 1
+    c.args.name c.reach-found.result no_key (view c.args.seat.now) (view c.look_at-word.new.seat)
     (view c.reach-found.new.seat)
     (looked_at c.args.slot c.look_at-word.result _ _ c.look_at-word.ensures.view)
     c.reach-found.ensures.view (sym c.if-not-has_entry-2.ensures) c.requires.fresh
-    (λ e. IsDataWord e CHARGE c.read_at-charge.result) c.read_at-charge.ensures.word))
-    got.1.small
+    (λ e. IsDataWord e CHARGE c.read_at-charge.result) c.read_at-charge.ensures.word)) got.1.small
 
 pub returns-then-not-has_entry-2-clause-counts : goal.returns-then-not-has_entry-2-clause-counts
 returns-then-not-has_entry-2-clause-counts g c = record {
@@ -163,12 +154,10 @@ returns-clause-counts g c = record {
         (view c.reach-found.new.seat)
         (looked_at c.args.slot c.look_at-word.result _ _ c.look_at-word.ensures.view)
         c.reach-found.ensures.view (sym c.if-not-has_entry-2.ensures) c.requires.fresh
-        (λ e. c.read_at-charge.result ≡ e.charge)
-        (charge_is (c.reach-found.ensures.view.got (sym c.if-not-has_entry-2.ensures)).0
-        c.read_at-charge.result
-        (told_key g.T.Tag.fits c.args.table.now.geometry.room c.args.slot 1 c.args.name
-        c.reach-found.result no_key (view c.args.seat.now) (view c.look_at-word.new.seat)
-        (view c.reach-found.new.seat)
+        (λ e. c.read_at-charge.result ≡ e.charge) (charge_is
+        (c.reach-found.ensures.view.got (sym c.if-not-has_entry-2.ensures)).0 (told_key g.T.Tag.fits
+        c.args.table.now.geometry.room c.args.slot 1 c.args.name c.reach-found.result no_key
+        (view c.args.seat.now) (view c.look_at-word.new.seat) (view c.reach-found.new.seat)
         (looked_at c.args.slot c.look_at-word.result _ _ c.look_at-word.ensures.view)
         c.reach-found.ensures.view (sym c.if-not-has_entry-2.ensures) c.requires.fresh
         (λ e. IsDataWord e CHARGE c.read_at-charge.result) c.read_at-charge.ensures.word));
@@ -195,18 +184,14 @@ returns-clause-counts g c = record {
 
 pub returns-then-not-has_entry-2-clause-seeks : goal.returns-then-not-has_entry-2-clause-seeks
 returns-then-not-has_entry-2-clause-seeks g c =
-    counts_seek g.T.Tag.fits c.args.table.now c.args.name c.args.slot _ _ _ _ _ c.requires.fresh
-    (returns-then-not-has_entry-2-clause-counts g c)
+    counts_seek c.requires.fresh (returns-then-not-has_entry-2-clause-counts g c)
 
 pub returns-then-refs-eq0-2-clause-seeks : goal.returns-then-refs-eq0-2-clause-seeks
 returns-then-refs-eq0-2-clause-seeks g c =
-    counts_seek g.T.Tag.fits c.args.table.now c.args.name c.args.slot _ _ _ _ _ c.requires.fresh
-    (returns-then-refs-eq0-2-clause-counts g c)
+    counts_seek c.requires.fresh (returns-then-refs-eq0-2-clause-counts g c)
 
 pub returns-clause-seeks : goal.returns-clause-seeks
-returns-clause-seeks g c =
-    counts_seek g.T.Tag.fits c.args.table.now c.args.name c.args.slot _ _ _ _ _ c.requires.fresh
-    (returns-clause-counts g c)
+returns-clause-seeks g c = counts_seek c.requires.fresh (returns-clause-counts g c)
 
 pub returns-then-not-has_entry-clause-seeks : goal.returns-then-not-has_entry-clause-seeks
 returns-then-not-has_entry-clause-seeks g c =

@@ -15,9 +15,7 @@ pub returns-then-not-is_shown-clause-missed : goal.returns-then-not-is_shown-cla
 returns-then-not-is_shown-clause-missed g c =
     let told = c.look_at-seen.ensures in (
       looked_at c.args.at.slot c.look_at-seen.result _ _ told.view,
-      buried_by_look c.args.key c.args.at.slot c.look_at-seen.result _ _ (sym
-          c.if-not-is_shown.ensures)
-          told.backs told.view,
+      buried_by_look c.args.key (sym c.if-not-is_shown.ensures) told.backs told.view,
     )
 
 pub returns-then-not-has_entry-clause-missed : goal.returns-then-not-has_entry-clause-missed
@@ -34,10 +32,9 @@ pub matches-requires-clause-holds : goal.matches-requires-clause-holds
 matches-requires-clause-holds g c = λ shown.
     holds_slot g.T.Tag.fits c.args.table.now.geometry.room c.args.at.slot 1 c.args.name
     c.reach-found.result c.args.key (view c.args.seat.now) (view c.look_at-seen.new.seat)
-    (view c.reach-found.new.seat)
-    (looked_at c.args.at.slot c.look_at-seen.result _ _ c.look_at-seen.ensures.view)
-    c.reach-found.ensures.view (visible_has c.reach-found.result shown) c.requires.fresh
-    (view c.reach-found.new.seat) (searched_refl (view c.reach-found.new.seat))
+    (view c.reach-found.new.seat) (looked_at c.args.at.slot c.look_at-seen.result _ _
+    c.look_at-seen.ensures.view) c.reach-found.ensures.view (visible_has c.reach-found.result shown)
+    c.requires.fresh (searched_refl (view c.reach-found.new.seat))
 
 pub returns-then-matches-clause-found : goal.returns-then-matches-clause-found
 returns-then-matches-clause-found g c =
@@ -48,16 +45,14 @@ returns-then-matches-clause-found g c =
           (looked_at c.args.at.slot c.look_at-seen.result _ _ c.look_at-seen.ensures.view)
           c.reach-found.ensures.view has c.requires.fresh,
       found_there g.T.Tag.fits c.args.table.now.geometry.room c.args.at.slot 1 c.args.name
-          c.reach-found.result c.args.key
-          (view c.args.seat.now) (view c.look_at-seen.new.seat) (view c.reach-found.new.seat)
-          (looked_at c.args.at.slot c.look_at-seen.result _ _ c.look_at-seen.ensures.view)
-          c.reach-found.ensures.view has c.requires.fresh
-          (view c.matches.new.seat) refl (c.matches.ensures.shown c.if-matches.true)
-          (told_key g.T.Tag.fits c.args.table.now.geometry.room c.args.at.slot 1 c.args.name
           c.reach-found.result c.args.key (view c.args.seat.now) (view c.look_at-seen.new.seat)
-          (view c.reach-found.new.seat)
-          (looked_at c.args.at.slot c.look_at-seen.result _ _ c.look_at-seen.ensures.view)
-          c.reach-found.ensures.view has c.requires.fresh
+          (view c.reach-found.new.seat) (looked_at c.args.at.slot c.look_at-seen.result _ _
+          c.look_at-seen.ensures.view) c.reach-found.ensures.view has c.requires.fresh refl
+          (c.matches.ensures.shown c.if-matches.true) (told_key g.T.Tag.fits
+          c.args.table.now.geometry.room c.args.at.slot 1 c.args.name c.reach-found.result
+          c.args.key (view c.args.seat.now) (view c.look_at-seen.new.seat)
+          (view c.reach-found.new.seat) (looked_at c.args.at.slot c.look_at-seen.result _ _
+          c.look_at-seen.ensures.view) c.reach-found.ensures.view has c.requires.fresh
           (λ e. key_of e ≡ c.args.key) (c.matches.ensures.equal c.if-matches.true))
           c.matches.ensures.view (c.matches.ensures.met c.if-matches.true),
       refl,
@@ -67,10 +62,9 @@ pub give_at-requires-clause-holds : goal.give_at-requires-clause-holds
 give_at-requires-clause-holds g c =
     holds g.T.Tag.fits c.args.table.now.geometry.room c.args.at.slot 1 c.args.name
     c.reach-found.result c.args.key (view c.args.seat.now) (view c.look_at-seen.new.seat)
-    (view c.reach-found.new.seat)
-    (looked_at c.args.at.slot c.look_at-seen.result _ _ c.look_at-seen.ensures.view)
-    c.reach-found.ensures.view (sym c.if-not-has_entry.ensures) c.requires.fresh
-    (view c.matches.new.seat) c.matches.ensures.view
+    (view c.reach-found.new.seat) (looked_at c.args.at.slot c.look_at-seen.result _ _
+    c.look_at-seen.ensures.view) c.reach-found.ensures.view (sym c.if-not-has_entry.ensures)
+    c.requires.fresh c.matches.ensures.view
 
 pub returns-clause-missed : goal.returns-clause-missed
 returns-clause-missed g c =
@@ -78,13 +72,10 @@ returns-clause-missed g c =
     c.reach-found.result c.args.key (view c.args.seat.now) (view c.look_at-seen.new.seat)
     (view c.reach-found.new.seat)
     (looked_at c.args.at.slot c.look_at-seen.result _ _ c.look_at-seen.ensures.view)
-    c.reach-found.ensures.view (sym c.if-not-has_entry.ensures) c.requires.fresh
-    c.give_at.result (view c.matches.new.seat) (view c.give_at.new.seat) c.matches.ensures.view
-    c.give_at.ensures.view (λ shown. told_key g.T.Tag.fits c.args.table.now.geometry.room
-    c.args.at.slot 1
-    c.args.name c.reach-found.result c.args.key (view c.args.seat.now) (view
-    c.look_at-seen.new.seat)
-    (view c.reach-found.new.seat)
+    c.reach-found.ensures.view (sym c.if-not-has_entry.ensures) c.requires.fresh c.give_at.result
+    c.matches.ensures.view c.give_at.ensures.view (λ shown. told_key g.T.Tag.fits
+    c.args.table.now.geometry.room c.args.at.slot 1 c.args.name c.reach-found.result c.args.key
+    (view c.args.seat.now) (view c.look_at-seen.new.seat) (view c.reach-found.new.seat)
     (looked_at c.args.at.slot c.look_at-seen.result _ _ c.look_at-seen.ensures.view)
     c.reach-found.ensures.view (sym c.if-not-has_entry.ensures) c.requires.fresh
     (λ e. ¬ (key_of e ≡ c.args.key)) (c.matches.ensures.other c.if-matches.false shown))
@@ -100,33 +91,28 @@ returns-then-matches-clause-acquired g c =
     (unmarked_adds c.reach-found.new.seat c.matches.new.seat c.matches.ensures.adds))
 
 pub returns-then-not-is_shown-clause-adds : goal.returns-then-not-is_shown-clause-adds
-returns-then-not-is_shown-clause-adds g c =
-    unmarked_zero _ _ c.args.seat.now c.look_at-seen.new.seat c.look_at-seen.ensures.step
+returns-then-not-is_shown-clause-adds g c = unmarked_zero c.look_at-seen.ensures.step
 
 pub returns-then-not-has_entry-clause-adds : goal.returns-then-not-has_entry-clause-adds
 returns-then-not-has_entry-clause-adds g c =
     unmarked_then c.args.seat.now c.look_at-seen.new.seat c.matches.new.seat
-    (unmarked_zero _ _ c.args.seat.now c.look_at-seen.new.seat c.look_at-seen.ensures.step)
-    (unmarked_then c.look_at-seen.new.seat c.reach-found.new.seat c.matches.new.seat
-    c.reach-found.ensures.adds c.matches.ensures.adds)
+    (unmarked_zero c.look_at-seen.ensures.step) (unmarked_then c.look_at-seen.new.seat
+    c.reach-found.new.seat c.matches.new.seat c.reach-found.ensures.adds c.matches.ensures.adds)
 
 pub returns-then-matches-clause-adds : goal.returns-then-matches-clause-adds
 returns-then-matches-clause-adds g c =
     unmarked_then c.args.seat.now c.look_at-seen.new.seat c.matches.new.seat
-    (unmarked_zero _ _ c.args.seat.now c.look_at-seen.new.seat c.look_at-seen.ensures.step)
-    (unmarked_then c.look_at-seen.new.seat c.reach-found.new.seat c.matches.new.seat
-    c.reach-found.ensures.adds c.matches.ensures.adds)
+    (unmarked_zero c.look_at-seen.ensures.step) (unmarked_then c.look_at-seen.new.seat
+    c.reach-found.new.seat c.matches.new.seat c.reach-found.ensures.adds c.matches.ensures.adds)
 
 pub returns-clause-adds : goal.returns-clause-adds
 returns-clause-adds g c =
     unmarked_then c.args.seat.now c.look_at-seen.new.seat c.give_at.new.seat
-    (unmarked_zero _ _ c.args.seat.now c.look_at-seen.new.seat c.look_at-seen.ensures.step)
-    (unmarked_then c.look_at-seen.new.seat c.reach-found.new.seat c.give_at.new.seat
-    c.reach-found.ensures.adds
-    (unmarked_then c.reach-found.new.seat c.matches.new.seat c.give_at.new.seat
-    c.matches.ensures.adds
+    (unmarked_zero c.look_at-seen.ensures.step) (unmarked_then c.look_at-seen.new.seat
+    c.reach-found.new.seat c.give_at.new.seat c.reach-found.ensures.adds (unmarked_then
+    c.reach-found.new.seat c.matches.new.seat c.give_at.new.seat c.matches.ensures.adds
     (unmarked_one _ c.matches.new.seat c.give_at.new.seat c.give_at.ensures.step.step
-    (light 1 (omega arith)))))
+    (light (omega arith)))))
 
 pub returns-then-not-is_shown-clause-passes : goal.returns-then-not-is_shown-clause-passes
 returns-then-not-is_shown-clause-passes g c = (
@@ -219,8 +205,7 @@ returns-clause-passes g c = (
           (view c.look_at-seen.new.seat) (view c.reach-found.new.seat)
           (searched_refl (view c.look_at-seen.new.seat)) c.reach-found.ensures.view
           (sym c.if-not-has_entry.ensures) (rw c.look_at-seen.ensures.view c.requires.fresh)
-          c.give_at.result (view c.matches.new.seat) (view c.give_at.new.seat)
-          c.matches.ensures.view c.give_at.ensures.view;
+          c.give_at.result c.matches.ensures.view c.give_at.ensures.view;
       other = λ shown. on_told g.T.Tag.fits c.args.table.now.geometry.room c.args.at.slot 1
           c.args.name c.reach-found.result c.args.key (view c.args.seat.now)
           (view c.look_at-seen.new.seat) (view c.reach-found.new.seat)
@@ -228,9 +213,8 @@ returns-clause-passes g c = (
           c.reach-found.ensures.view (sym c.if-not-has_entry.ensures) c.requires.fresh
           (λ e. ¬ (key_of e ≡ c.args.key))
           (c.matches.ensures.other c.if-matches.false shown);
-      loads = λ shown. other_then c.args.table.now c.args.key c.args.at.slot c.reach-found.new.seat
-          c.matches.new.seat c.give_at.new.seat
-          (c.matches.ensures.differs c.if-matches.false shown)
+      loads = λ shown. other_then c.args.table.now c.args.at.slot c.reach-found.new.seat
+          c.matches.new.seat c.give_at.new.seat (c.matches.ensures.differs c.if-matches.false shown)
           (unmarked_adds c.matches.new.seat c.give_at.new.seat given);
     };
   },
@@ -239,7 +223,7 @@ returns-clause-passes g c = (
     given : AddsUnmarked c.matches.new.seat c.give_at.new.seat
     given =
         unmarked_one _ c.matches.new.seat c.give_at.new.seat c.give_at.ensures.step.step
-        (light 1 (omega arith))
+        (light (omega arith))
 
 pub returns-then-matches-clause-catches : goal.returns-then-matches-clause-catches
 returns-then-matches-clause-catches g c = record {

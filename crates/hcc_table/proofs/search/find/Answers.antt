@@ -18,8 +18,7 @@ use Rattle.hcc_table.proofs.search.find.Goals as goal
 pub mark_if-requires-clause-holds : goal.mark_if-requires-clause-holds
 mark_if-requires-clause-holds g c =
     let found = c.in-Some.ensures.found in
-    found_stands g.T.Tag.fits c.args.table.now.geometry.room c.slot-home.result c.args.name
-    c.args.key (view c.args.seat.now) (view c.acquire_at.new.seat) found.0 c.requires.fresh found.1
+    found_stands c.requires.fresh found.1
 
 pub returns-in-Some-clause-found : goal.returns-in-Some-clause-found
 returns-in-Some-clause-found g c =
@@ -36,21 +35,15 @@ pub returns-in-Some-clause-searches : goal.returns-in-Some-clause-searches
 returns-in-Some-clause-searches g c =
     let counted = c.probes.ensures in (
       c.in-Some.found,
-      finds_here g.T.Tag.fits c.args.table.now c.args.key c.args.name c.args.marks 0
-          c.slot-home.result c.in-Some.found c.args.effort.now c.args.effort.now
-          c.acquire_at.new.effort c.probes.new.self c.args.seat.now c.args.seat.now
-          c.acquire_at.new.seat c.mark_if.new.seat
-          (passed_none g.T.Tag.fits c.args.table.now c.args.key c.args.name c.args.effort.now
-          c.args.seat.now)
+      finds_here g.T.Tag.fits c.args.table.now c.args.key c.args.name (passed_none g.T.Tag.fits
+          c.args.table.now c.args.key c.args.name c.args.effort.now c.args.seat.now)
           (c.slot-home.ensures ∙ (begins c.args.table.now.geometry.slots c.args.key
-          c.args.table.now.limits.power c.begin-walk.result c.args.seat.now
-          c.begin-walk.ensures.probe
-          c.begin-walk.ensures.stride (rw (← c.geometry-slots.ensures)
-          c.begin-walk.ensures.mask)).walking.probe)
-          c.in-Some.ensures.catches
-          (counted.probes, counted.corrections, counted.lost) c.mark_if.ensures.marked
-          c.mark_if.ensures.unmarked c.mark_if.ensures.unasked c.mark_if.ensures.by
-          c.mark_if.ensures.view,
+          c.args.table.now.limits.power c.args.seat.now c.begin-walk.ensures.probe
+          c.begin-walk.ensures.stride
+          (rw (← c.geometry-slots.ensures) c.begin-walk.ensures.mask)).walking.probe)
+          c.in-Some.ensures.catches (counted.probes, counted.corrections, counted.lost)
+          c.mark_if.ensures.marked c.mark_if.ensures.unmarked c.mark_if.ensures.unasked
+          c.mark_if.ensures.by c.mark_if.ensures.view,
       c.is_counting.ensures,
     )
 
@@ -60,10 +53,9 @@ returns-in-Some-clause-acquired g c = (
   c.in-Some.ensures.catches.visible,
   c.is_counting.ensures,
   among_then (atomic (address_of_meta c.args.table.now c.slot-home.result) 1 0 c.in-Some.found)
-      c.args.seat.now c.acquire_at.new.seat c.mark_if.new.seat c.in-Some.ensures.acquired
-      (marks_add (address_of_meta c.args.table.now c.slot-home.result) c.acquire_at.new.seat
-      c.mark_if.new.seat c.args.marks (hit_of c.in-Some.found) c.mark_if.ensures.marked
-      c.mark_if.ensures.unmarked c.mark_if.ensures.unasked),
+      c.args.seat.now c.acquire_at.new.seat c.mark_if.new.seat c.in-Some.ensures.acquired (marks_add
+      c.args.marks (hit_of c.in-Some.found) c.mark_if.ensures.marked c.mark_if.ensures.unmarked
+      c.mark_if.ensures.unasked),
 )
 
 pub returns-in-Some-clause-steps : goal.returns-in-Some-clause-steps
@@ -75,8 +67,8 @@ returns-in-Some-clause-steps g c =
     record {
       visited = 1;
       within = omega arith;
-      counted = counted_probes 1 1 c.args.effort.now c.acquire_at.new.effort c.probes.new.self
-          c.acquire_at.ensures.effort c.probes.ensures.probes;
+      counted = counted_probes 1 1 c.probes.new.self c.acquire_at.ensures.effort
+          c.probes.ensures.probes;
       steps = omega arith;
     }
 
@@ -85,9 +77,8 @@ returns-then-count_at-eq0-clause-missed g c =
     let table = c.args.table.now in
     let told = c.count_at.ensures in
     ends table.geometry.slots c.args.key table.limits.power 0 c.count_at.result c.slot-home.result
-    c.begin-walk.result c.args.seat.now c.args.seat.now
-    (begins c.args.table.now.geometry.slots c.args.key
-    c.args.table.now.limits.power c.begin-walk.result c.args.seat.now c.begin-walk.ensures.probe
+    c.begin-walk.result c.args.seat.now c.args.seat.now (begins c.args.table.now.geometry.slots
+    c.args.key c.args.table.now.limits.power c.args.seat.now c.begin-walk.ensures.probe
     c.begin-walk.ensures.stride (rw (← c.geometry-slots.ensures) c.begin-walk.ensures.mask))
     c.slot-home.ensures c.acquire_at.new.seat c.count_at.new.seat c.acquire_at.ensures.seat
     told.seat c.in_default.ensures.missed told.view told.held told.within c.if-count_at-eq0.true
@@ -99,22 +90,18 @@ returns-then-count_at-eq0-clause-searches g c =
     misses_here g.T.Tag.fits c.args.table.now c.args.key c.args.name 0 c.slot-home.result
     c.in_default.ensures.passes.0 c.count_at.result c.args.effort.now c.args.effort.now
     c.acquire_at.new.effort c.args.seat.now c.args.seat.now c.acquire_at.new.seat
-    c.count_at.new.seat
-    (passed_none g.T.Tag.fits c.args.table.now c.args.key c.args.name c.args.effort.now
-    c.args.seat.now)
-    (c.slot-home.ensures ∙ (begins c.args.table.now.geometry.slots c.args.key
-    c.args.table.now.limits.power c.begin-walk.result c.args.seat.now c.begin-walk.ensures.probe
-    c.begin-walk.ensures.stride (rw (← c.geometry-slots.ensures)
-    c.begin-walk.ensures.mask)).walking.probe)
-    c.in_default.ensures.passes.1 told.step told.event told.view
-    c.probes-then-count_at-eq0.new.self c.if-count_at-eq0.true
+    c.count_at.new.seat (passed_none g.T.Tag.fits c.args.table.now c.args.key c.args.name
+    c.args.effort.now c.args.seat.now) (c.slot-home.ensures ∙
+    (begins c.args.table.now.geometry.slots c.args.key c.args.table.now.limits.power c.args.seat.now
+    c.begin-walk.ensures.probe c.begin-walk.ensures.stride
+    (rw (← c.geometry-slots.ensures) c.begin-walk.ensures.mask)).walking.probe)
+    c.in_default.ensures.passes.1 told.step told.event told.view c.if-count_at-eq0.true
     (counted.probes, counted.corrections, counted.lost)
 
 pub returns-then-count_at-eq0-clause-unmarked : goal.returns-then-count_at-eq0-clause-unmarked
 returns-then-count_at-eq0-clause-unmarked g c _ =
     unmarked_then c.args.seat.now c.acquire_at.new.seat c.count_at.new.seat
-    c.acquire_at.ensures.adds
-    (unmarked_zero _ _ c.acquire_at.new.seat c.count_at.new.seat c.count_at.ensures.step)
+    c.acquire_at.ensures.adds (unmarked_zero c.count_at.ensures.step)
 
 pub returns-then-count_at-eq0-clause-steps : goal.returns-then-count_at-eq0-clause-steps
 returns-then-count_at-eq0-clause-steps g c =
@@ -125,8 +112,7 @@ returns-then-count_at-eq0-clause-steps g c =
     record {
       visited = 1;
       within = omega arith;
-      counted = counted_probes 1 1 c.args.effort.now c.acquire_at.new.effort
-          c.probes-then-count_at-eq0.new.self c.acquire_at.ensures.effort
+      counted = counted_probes 1 1 c.probes-then-count_at-eq0.new.self c.acquire_at.ensures.effort
           c.probes-then-count_at-eq0.ensures.probes;
       steps = omega arith;
     }
@@ -135,19 +121,18 @@ pub loop-probe-init : goal.loop-probe-init
 loop-probe-init g c =
     let table = c.args.table.now in
     let told = c.count_at.ensures in
-    let start = (begins c.args.table.now.geometry.slots c.args.key
-    c.args.table.now.limits.power c.begin-walk.result c.args.seat.now c.begin-walk.ensures.probe
-    c.begin-walk.ensures.stride (rw (← c.geometry-slots.ensures) c.begin-walk.ensures.mask)) in (
+    let start = (begins c.args.table.now.geometry.slots c.args.key c.args.table.now.limits.power
+    c.args.seat.now c.begin-walk.ensures.probe c.begin-walk.ensures.stride
+    (rw (← c.geometry-slots.ensures) c.begin-walk.ensures.mask)) in (
       goes_on table.geometry.slots c.args.key table.limits.power 0 c.count_at.result
           c.slot-home.result c.begin-walk.result c.args.seat.now c.args.seat.now start
           c.slot-home.ensures c.acquire_at.new.seat c.count_at.new.seat c.acquire_at.ensures.seat
-          told.seat c.in_default.ensures.missed told.view told.held told.within
-          (record c.begin-walk.result { probe = c.beyond.result }) c.beyond.ensures refl refl,
+          told.seat c.in_default.ensures.missed told.view told.held told.within c.beyond.ensures
+          refl refl,
       c.acquire_at.ensures.effort,
       (let held = c.acquire_at.ensures.steps in let one = told.step.one in omega arith),
       unmarked_then c.args.seat.now c.acquire_at.new.seat c.count_at.new.seat
-          c.acquire_at.ensures.adds
-          (unmarked_zero _ _ c.acquire_at.new.seat c.count_at.new.seat told.step),
+          c.acquire_at.ensures.adds (unmarked_zero told.step),
       passed_then g.T.Tag.fits table c.args.key c.args.name 0 c.slot-home.result
           c.in_default.ensures.passes.0 c.count_at.result c.args.effort.now c.args.effort.now
           c.acquire_at.new.effort c.args.seat.now c.args.seat.now c.acquire_at.new.seat
@@ -176,25 +161,19 @@ loop-probe-preserved g c =
     let told = c.count_at-in-loop-probe.ensures in
     let next = c.next-walk.ensures in (
       goes_on table.geometry.slots c.args.key table.limits.power c.loop-probe.probe
-          c.count_at-in-loop-probe.result
-          c.slot-slot.result c.loop-probe.walk c.args.seat.now c.loop-probe.seat
-          c.loop-probe.invariant.0 c.slot-slot.ensures c.acquire_at-in-loop-probe.new.seat
-          c.count_at-in-loop-probe.new.seat
+          c.count_at-in-loop-probe.result c.slot-slot.result c.loop-probe.walk c.args.seat.now
+          c.loop-probe.seat c.loop-probe.invariant.0 c.slot-slot.ensures
+          c.acquire_at-in-loop-probe.new.seat c.count_at-in-loop-probe.new.seat
           c.acquire_at-in-loop-probe.ensures.seat told.seat c.in_default-acquire_at.ensures.missed
-          told.view told.held
-          told.within
-          c.next-walk.result next.probe next.stride next.mask,
+          told.view told.held told.within next.probe next.stride next.mask,
       visited,
       (let so_far = c.loop-probe.invariant.2 in let held = c.acquire_at-in-loop-probe.ensures.steps
           in
           let one = told.step.one in omega arith),
       unmarked_then c.args.seat.now c.acquire_at-in-loop-probe.new.seat
-          c.count_at-in-loop-probe.new.seat
-          (unmarked_then c.args.seat.now c.loop-probe.seat c.acquire_at-in-loop-probe.new.seat
-          c.loop-probe.invariant.3
-          c.acquire_at-in-loop-probe.ensures.adds)
-          (unmarked_zero _ _ c.acquire_at-in-loop-probe.new.seat c.count_at-in-loop-probe.new.seat
-          told.step),
+          c.count_at-in-loop-probe.new.seat (unmarked_then c.args.seat.now c.loop-probe.seat
+          c.acquire_at-in-loop-probe.new.seat c.loop-probe.invariant.3
+          c.acquire_at-in-loop-probe.ensures.adds) (unmarked_zero told.step),
       passed_then g.T.Tag.fits table c.args.key c.args.name c.loop-probe.probe c.slot-slot.result
           c.in_default-acquire_at.ensures.passes.0 c.count_at-in-loop-probe.result c.args.effort.now
           c.loop-probe.effort
@@ -209,27 +188,23 @@ loop-probe-preserved g c =
     visited : Took 0 0 (c.loop-probe.probe + 1) c.args.effort.now
         c.acquire_at-in-loop-probe.new.effort
     visited =
-        took_then c.loop-probe.probe 1 (c.loop-probe.probe + 1) c.args.effort.now
-        c.loop-probe.effort c.acquire_at-in-loop-probe.new.effort c.loop-probe.invariant.1
-        c.acquire_at-in-loop-probe.ensures.effort
-        (omega arith)
+        took_then c.loop-probe.probe 1 c.loop-probe.invariant.1
+        c.acquire_at-in-loop-probe.ensures.effort (omega arith)
 
 pub returns-clause-missed : goal.returns-clause-missed
 returns-clause-missed g c =
     let table = c.args.table.now in
     let size = c.geometry-slots.ensures in
-    ends_all table.geometry.slots c.args.key table.limits.power c.loop-probe.probe c.loop-probe.walk
-    c.args.seat.now c.loop-probe.seat (some_slots table.geometry.slots table.limits.power)
-    (rw (← size) c.loop-probe-test.false) (rw (← size) (c.loop-probe.auto.probe-end
-    (rw size (some_slots c.args.table.now.geometry.slots c.args.table.now.limits.power))))
-    c.loop-probe.invariant.0
+    ends_all table.geometry.slots c.args.key table.limits.power
+    (some_slots table.geometry.slots table.limits.power) (rw (← size) c.loop-probe-test.false)
+    (rw (← size) (c.loop-probe.auto.probe-end (rw size (some_slots c.args.table.now.geometry.slots
+    c.args.table.now.limits.power)))) c.loop-probe.invariant.0
 
 pub mark_if-requires-in-Some-acquire_at-clause-holds :
     goal.mark_if-requires-in-Some-acquire_at-clause-holds
 mark_if-requires-in-Some-acquire_at-clause-holds g c =
     let found = c.in-Some-acquire_at.ensures.found in
-    found_stands g.T.Tag.fits c.args.table.now.geometry.room c.slot-slot.result c.args.name
-    c.args.key (view c.loop-probe.seat) (view c.acquire_at-in-loop-probe.new.seat) found.0
+    found_stands
     (ap (record_in c.args.name) c.loop-probe.invariant.0.sought.records ∙ c.requires.fresh) found.1
 
 pub returns-in-Some-acquire_at-clause-found : goal.returns-in-Some-acquire_at-clause-found
@@ -251,11 +226,8 @@ returns-in-Some-acquire_at-clause-effort g c =
     let i = c.loop-probe.probe in
     let slots = c.args.table.now.geometry.slots in
     let low : i < slots = rw (← size) c.loop-probe-test.true in
-    took_probes (i + 1) (i + 1) slots c.args.effort.now c.acquire_at-in-loop-probe.new.effort
-    c.probes-in-Some-acquire_at.new.self
-    (took_then i 1 (i + 1) c.args.effort.now c.loop-probe.effort
-    c.acquire_at-in-loop-probe.new.effort
-    c.loop-probe.invariant.1 c.acquire_at-in-loop-probe.ensures.effort (omega arith))
+    took_probes (i + 1) (i + 1)
+    (took_then i 1 c.loop-probe.invariant.1 c.acquire_at-in-loop-probe.ensures.effort (omega arith))
     counted.probes counted.corrections counted.lost (omega arith) (omega arith) (omega arith)
 
 pub returns-then-count_at-eq0-2-clause-effort : goal.returns-then-count_at-eq0-2-clause-effort
@@ -265,11 +237,8 @@ returns-then-count_at-eq0-2-clause-effort g c =
     let i = c.loop-probe.probe in
     let slots = c.args.table.now.geometry.slots in
     let low : i < slots = rw (← size) c.loop-probe-test.true in
-    took_probes (i + 1) (i + 1) slots c.args.effort.now c.acquire_at-in-loop-probe.new.effort
-    c.probes-then-count_at-eq0-2.new.self
-    (took_then i 1 (i + 1) c.args.effort.now c.loop-probe.effort
-    c.acquire_at-in-loop-probe.new.effort
-    c.loop-probe.invariant.1 c.acquire_at-in-loop-probe.ensures.effort (omega arith))
+    took_probes (i + 1) (i + 1)
+    (took_then i 1 c.loop-probe.invariant.1 c.acquire_at-in-loop-probe.ensures.effort (omega arith))
     counted.probes counted.corrections counted.lost (omega arith) (omega arith) (omega arith)
 
 pub returns-clause-effort : goal.returns-clause-effort
@@ -282,9 +251,8 @@ returns-clause-effort g c =
     let most : i ≤ slots = rw (← size) (c.loop-probe.auto.probe-end
     (rw size (some_slots c.args.table.now.geometry.slots c.args.table.now.limits.power))) in
     let some : 0 < slots = some_slots slots c.args.table.now.limits.power in
-    took_probes slots i slots c.args.effort.now c.loop-probe.effort c.probes-2.new.self
-    c.loop-probe.invariant.1 (rw (← size) counted.probes) counted.corrections counted.lost
-    (omega arith) (omega arith) (omega arith)
+    took_probes slots i c.loop-probe.invariant.1 (rw (← size) counted.probes) counted.corrections
+    counted.lost (omega arith) (omega arith) (omega arith)
 
 pub returns-in-Some-acquire_at-clause-steps : goal.returns-in-Some-acquire_at-clause-steps
 returns-in-Some-acquire_at-clause-steps g c =
@@ -297,11 +265,7 @@ returns-in-Some-acquire_at-clause-steps g c =
     record {
       visited = i + 1;
       within = omega arith;
-      counted = counted_probes (i + 1) (i + 1) c.args.effort.now
-          c.acquire_at-in-loop-probe.new.effort
-          c.probes-in-Some-acquire_at.new.self
-          (took_then i 1 (i + 1) c.args.effort.now c.loop-probe.effort
-          c.acquire_at-in-loop-probe.new.effort
+      counted = counted_probes (i + 1) (i + 1) c.probes-in-Some-acquire_at.new.self (took_then i 1
           c.loop-probe.invariant.1 c.acquire_at-in-loop-probe.ensures.effort (omega arith))
           c.probes-in-Some-acquire_at.ensures.probes;
       steps = omega arith;
@@ -318,11 +282,7 @@ returns-then-count_at-eq0-2-clause-steps g c =
     record {
       visited = i + 1;
       within = omega arith;
-      counted = counted_probes (i + 1) (i + 1) c.args.effort.now
-          c.acquire_at-in-loop-probe.new.effort
-          c.probes-then-count_at-eq0-2.new.self
-          (took_then i 1 (i + 1) c.args.effort.now c.loop-probe.effort
-          c.acquire_at-in-loop-probe.new.effort
+      counted = counted_probes (i + 1) (i + 1) c.probes-then-count_at-eq0-2.new.self (took_then i 1
           c.loop-probe.invariant.1 c.acquire_at-in-loop-probe.ensures.effort (omega arith))
           c.probes-then-count_at-eq0-2.ensures.probes;
       steps = omega arith;
@@ -339,8 +299,8 @@ returns-clause-steps g c =
     record {
       visited = slots;
       within = omega arith;
-      counted = counted_probes slots i c.args.effort.now c.loop-probe.effort c.probes-2.new.self
-          c.loop-probe.invariant.1 (rw (← size) c.probes-2.ensures.probes);
+      counted = counted_probes slots i c.probes-2.new.self c.loop-probe.invariant.1
+          (rw (← size) c.probes-2.ensures.probes);
       steps = omega arith;
     }
 
@@ -379,14 +339,11 @@ returns-in-Some-acquire_at-clause-acquired g c = (
   c.in-Some-acquire_at.ensures.catches.visible,
   c.is_counting-in-Some-acquire_at.ensures,
   among_then got c.args.seat.now c.acquire_at-in-loop-probe.new.seat
-      c.mark_if-in-Some-acquire_at.new.seat
-      (among_after got c.args.seat.now c.loop-probe.seat c.acquire_at-in-loop-probe.new.seat
-      (unmarked_adds c.args.seat.now c.loop-probe.seat c.loop-probe.invariant.3)
-      c.in-Some-acquire_at.ensures.acquired)
-      (marks_add (address_of_meta c.args.table.now c.slot-slot.result)
+      c.mark_if-in-Some-acquire_at.new.seat (among_after got c.args.seat.now c.loop-probe.seat
       c.acquire_at-in-loop-probe.new.seat
-      c.mark_if-in-Some-acquire_at.new.seat c.args.marks (hit_of c.in-Some-acquire_at.found)
-      c.mark_if-in-Some-acquire_at.ensures.marked
+      (unmarked_adds c.args.seat.now c.loop-probe.seat c.loop-probe.invariant.3)
+      c.in-Some-acquire_at.ensures.acquired) (marks_add c.args.marks
+      (hit_of c.in-Some-acquire_at.found) c.mark_if-in-Some-acquire_at.ensures.marked
       c.mark_if-in-Some-acquire_at.ensures.unmarked c.mark_if-in-Some-acquire_at.ensures.unasked),
 )
   where
@@ -408,12 +365,9 @@ returns-in-Some-acquire_at-clause-unmarked g c unasked =
 pub returns-then-count_at-eq0-2-clause-unmarked : goal.returns-then-count_at-eq0-2-clause-unmarked
 returns-then-count_at-eq0-2-clause-unmarked g c _ =
     unmarked_then c.args.seat.now c.acquire_at-in-loop-probe.new.seat
-    c.count_at-in-loop-probe.new.seat
-    (unmarked_then c.args.seat.now c.loop-probe.seat c.acquire_at-in-loop-probe.new.seat
-    c.loop-probe.invariant.3
-    c.acquire_at-in-loop-probe.ensures.adds)
-    (unmarked_zero _ _ c.acquire_at-in-loop-probe.new.seat c.count_at-in-loop-probe.new.seat
-    c.count_at-in-loop-probe.ensures.step)
+    c.count_at-in-loop-probe.new.seat (unmarked_then c.args.seat.now c.loop-probe.seat
+    c.acquire_at-in-loop-probe.new.seat c.loop-probe.invariant.3
+    c.acquire_at-in-loop-probe.ensures.adds) (unmarked_zero c.count_at-in-loop-probe.ensures.step)
 
 pub returns-clause-unmarked : goal.returns-clause-unmarked
 returns-clause-unmarked g c _ = c.loop-probe.invariant.3
@@ -422,18 +376,12 @@ pub returns-in-Some-acquire_at-clause-searches : goal.returns-in-Some-acquire_at
 returns-in-Some-acquire_at-clause-searches g c =
     let counted = c.probes-in-Some-acquire_at.ensures in (
       c.in-Some-acquire_at.found,
-      finds_here g.T.Tag.fits c.args.table.now c.args.key c.args.name c.args.marks
-          c.loop-probe.probe c.slot-slot.result c.in-Some-acquire_at.found c.args.effort.now
-          c.loop-probe.effort c.acquire_at-in-loop-probe.new.effort
-          c.probes-in-Some-acquire_at.new.self c.args.seat.now
-          c.loop-probe.seat c.acquire_at-in-loop-probe.new.seat
-          c.mark_if-in-Some-acquire_at.new.seat c.loop-probe.invariant.4
+      finds_here g.T.Tag.fits c.args.table.now c.args.key c.args.name c.loop-probe.invariant.4
           (c.slot-slot.ensures ∙ c.loop-probe.invariant.0.walking.probe)
-          c.in-Some-acquire_at.ensures.catches
-          (counted.probes, counted.corrections, counted.lost)
-          c.mark_if-in-Some-acquire_at.ensures.marked
-          c.mark_if-in-Some-acquire_at.ensures.unmarked c.mark_if-in-Some-acquire_at.ensures.unasked
-          c.mark_if-in-Some-acquire_at.ensures.by c.mark_if-in-Some-acquire_at.ensures.view,
+          c.in-Some-acquire_at.ensures.catches (counted.probes, counted.corrections, counted.lost)
+          c.mark_if-in-Some-acquire_at.ensures.marked c.mark_if-in-Some-acquire_at.ensures.unmarked
+          c.mark_if-in-Some-acquire_at.ensures.unasked c.mark_if-in-Some-acquire_at.ensures.by
+          c.mark_if-in-Some-acquire_at.ensures.view,
       c.is_counting-in-Some-acquire_at.ensures,
     )
 
@@ -443,13 +391,10 @@ returns-then-count_at-eq0-2-clause-searches g c =
     let told = c.count_at-in-loop-probe.ensures in
     misses_here g.T.Tag.fits c.args.table.now c.args.key c.args.name c.loop-probe.probe
     c.slot-slot.result c.in_default-acquire_at.ensures.passes.0 c.count_at-in-loop-probe.result
-    c.args.effort.now
-    c.loop-probe.effort c.acquire_at-in-loop-probe.new.effort c.args.seat.now c.loop-probe.seat
-    c.acquire_at-in-loop-probe.new.seat
-    c.count_at-in-loop-probe.new.seat c.loop-probe.invariant.4
-    (c.slot-slot.ensures ∙ c.loop-probe.invariant.0.walking.probe)
-    c.in_default-acquire_at.ensures.passes.1
-    told.step told.event told.view c.probes-then-count_at-eq0-2.new.self c.if-count_at-eq0-2.true
+    c.args.effort.now c.loop-probe.effort c.acquire_at-in-loop-probe.new.effort c.args.seat.now
+    c.loop-probe.seat c.acquire_at-in-loop-probe.new.seat c.count_at-in-loop-probe.new.seat
+    c.loop-probe.invariant.4 (c.slot-slot.ensures ∙ c.loop-probe.invariant.0.walking.probe)
+    c.in_default-acquire_at.ensures.passes.1 told.step told.event told.view c.if-count_at-eq0-2.true
     (counted.probes, counted.corrections, counted.lost)
 
 pub returns-clause-searches : goal.returns-clause-searches
@@ -464,7 +409,6 @@ returns-clause-searches g c =
     let all : c.loop-probe.probe ≡ slots = omega arith in
     let visited : VisitedSlots slots c.loop-probe.effort c.probes-2.new.self =
     (rw (← size) counted.probes, counted.corrections, counted.lost) in
-    misses_all g.T.Tag.fits c.args.table.now c.args.key c.args.name c.loop-probe.probe
-    c.args.effort.now c.loop-probe.effort c.probes-2.new.self c.args.seat.now c.loop-probe.seat
-    c.loop-probe.invariant.4 (omega arith) all
+    misses_all g.T.Tag.fits c.args.table.now c.args.key c.args.name c.loop-probe.invariant.4
+    (omega arith) all
     (subst (λ n. VisitedSlots n c.loop-probe.effort c.probes-2.new.self) (sym all) visited)
