@@ -22,10 +22,6 @@ use Rattle.hcc_table.proofs.Searches.{searched_refl}
 use Rattle.hcc_table.proofs.Seeking.{seeks_one, seeks_then}
 use Rattle.hcc_table.proofs.Still.{looks_reach, reads_give}
 
--- a key for lemmas that are of no key
-abbrev pub no_key : Key
-no_key = record { w0 = 0; w1 = 0 }
-
 -- the word that was read is the entry's charge
 pub charge_is : (entry : Entry) {word : ℕ} → IsDataWord entry CHARGE word → word ≡ entry.charge
 charge_is entry told = told other long
@@ -81,8 +77,7 @@ counts_seek {T} {A} {fits} {table} {name} {slot} {charge} {before} {after} {old}
         on true is =
             let entry = r.entry is in
             seeks_then table old r.mid new first (reads_give table slot 1 entry.left entry.mid
-            (holds_slot fits (room_of table) slot 1 name r.word no_key (view old) (view h.mid)
-            (view r.mid) (looked_at slot h.seen (view old) (view h.mid) h.looks.1) r.reaches.reached
+            (holds_slot (looked_at slot h.seen (view old) (view h.mid) h.looks.1) r.reaches.reached
             is fresh (searched_refl (view r.mid))) entry.reads entry.gives)
 
     by : (b : Bool) → is_held h.seen ≡ b → Seeks table old new

@@ -100,11 +100,12 @@ module _ {T : Type 0} where
   buried_by_look key {slot} {word} {v} {w} hidden backs same =
       buried_by_dead key w hidden backs (ap (λ (z : View T). z.work.dead) same)
 
-  module _ (fits : T → Key → List ℕ → Type 0) (room slot weight name word : ℕ) (key : Key)
-      (v a b : View T) (looked : Sought v a) (h : Reached fits room slot weight name word a b) where
+  module _ {fits : T → Key → List ℕ → Type 0} {room slot weight name word : ℕ} {v a b : View T}
+      (looked : Sought v a) (h : Reached fits room slot weight name word a b) where
     -- An acquire that strayed: nothing is held there.
-    pub strayed : is_shareable word ≡ false → Sought v b × Buried key (λ s. s ≡ slot) v b
-    strayed away = (
+    pub strayed : (key : Key) → is_shareable word ≡ false
+        → Sought v b × Buried key (λ s. s ≡ slot) v b
+    strayed key away = (
       sought_then v a b looked record { searched = h.searched; records = h.stray away },
       each_map (λ r. r.slot ≡ slot → is_shareable word ≡ true)
           (λ r. key_of r.entry ≡ key → r.slot ≡ slot → is_in r.entry.stamp b.work.dead ≡ true)
@@ -171,9 +172,9 @@ module _ {T : Type 0} where
       one_entry = rw (← looked.records) ((h.got has).1).same
 
       -- The entry that was found hidden is dead, and so is each of these.
-      pub buried_hidden : {d : View T} → is_visible word ≡ false → Searched b d
+      pub buried_hidden : (key : Key) {d : View T} → is_visible word ≡ false → Searched b d
           → Buried key (λ s. s ≡ slot) v d
-      buried_hidden {d} hidden kept =
+      buried_hidden key {d} hidden kept =
           each_map (λ r. r.slot ≡ slot → r.entry ≡ entry)
           (λ r. key_of r.entry ≡ key → r.slot ≡ slot → is_in r.entry.stamp d.work.dead ≡ true)
           (λ r same asked on. subst (λ (e : Entry). is_in e.stamp d.work.dead ≡ true)
@@ -181,38 +182,40 @@ module _ {T : Type 0} where
           v.records one_entry
 
       -- An entry of another key is none that was asked for.
-      pub buried_other : (d : View T) → ¬ (key_of entry ≡ key) → Buried key (λ s. s ≡ slot) v d
-      buried_other d other =
+      pub buried_other : {key : Key} (d : View T) → ¬ (key_of entry ≡ key)
+          → Buried key (λ s. s ≡ slot) v d
+      buried_other {key} d other =
           each_map (λ r. r.slot ≡ slot → r.entry ≡ entry)
           (λ r. key_of r.entry ≡ key → r.slot ≡ slot → is_in r.entry.stamp d.work.dead ≡ true)
           (λ r same asked on. absurd (other (ap key_of (sym (same on)) ∙ asked)))
           v.records one_entry
 
       -- Where the record is no match, it's given back.
-      pub missed_there : (left : ℕ) {c d : View T} → Sought b c → d ≡ after_give slot name left c
+      pub missed_there : {key : Key} (left : ℕ) {c d : View T} → Sought b c
+          → d ≡ after_give slot name left c
           → (is_visible word ≡ true → ¬ (key_of entry ≡ key))
           → Sought v d × Buried key (λ s. s ≡ slot) v d
-      missed_there left {c} {d} kept same other =
+      missed_there {key} left {c} {d} kept same other =
           (given_back left kept same, by (is_visible word) refl)
         where
           by : (b : Bool) → is_visible word ≡ b → Buried key (λ s. s ≡ slot) v d
           by true is = buried_other d (other is)
-          by false is = buried_hidden is
+          by false is = buried_hidden key is
               (searched_then b c d kept.searched (given_at slot name left c d same))
 
       -- An entry that was found visible is met once both its key words were read.
-      key_last : is_visible word ≡ true → key_of entry ≡ key
+      key_last : {key : Key} → is_visible word ≡ true → key_of entry ≡ key
           → with_met (record_in name b.records) b.met ≡ b.met ++ key ∷ []
       key_last shown asked =
           ap (λ o. with_met o b.met) on_record
           ∙ (ap (λ s. cond s (b.met ++ key_of entry ∷ []) b.met) shown
           ∙ ap (λ k. b.met ++ k ∷ []) asked)
 
-      pub met_there : (left : ℕ) (c : View T) {d : View T} → is_visible word ≡ true
+      pub met_there : {key : Key} (left : ℕ) (c : View T) {d : View T} → is_visible word ≡ true
           → key_of entry ≡ key
           → c.met ≡ with_met (record_in name b.records) b.met → d ≡ after_give slot name left c
           → (more : List Key) × (d.met ≡ v.met ++ more ++ key ∷ [])
-      met_there left c shown asked meets same =
+      met_there {key} left c shown asked meets same =
           let before = searched_then v a b looked.searched h.searched in (
             before.met.0,
             ap (λ (z : View T). z.met) same
@@ -220,11 +223,11 @@ module _ {T : Type 0} where
           )
 
       -- The entry that was found, with the key that was asked for.
-      pub found_there : {d : View T} → weight ≡ 1 → is_visible word ≡ true → key_of entry ≡ key
-          → Sought b d
+      pub found_there : {key : Key} {d : View T} → weight ≡ 1 → is_visible word ≡ true
+          → key_of entry ≡ key → Sought b d
           → d.met ≡ with_met (record_in name b.records) b.met
           → IsFound fits room slot name key v d got_record
-      found_there {d} one shown asked kept meets = record {
+      found_there {key} {d} one shown asked kept meets = record {
         searched = searched_then v b d (searched_then v a b looked.searched h.searched)
             kept.searched;
         records = kept.records ∙ records_are;

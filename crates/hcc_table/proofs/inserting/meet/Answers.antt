@@ -14,80 +14,56 @@ use Rattle.hcc_table.proofs.inserting.meet.Goals as goal
 
 pub returns-then-not-has_entry-clause-view : goal.returns-then-not-has_entry-clause-view
 returns-then-not-has_entry-clause-view g c =
-    (strayed
-    g.T.Tag.fits c.args.table.now.geometry.room c.args.at.slot c.args.weight c.args.name
-    c.reach-found.result c.args.key (view c.args.seat.now) (view c.args.seat.now)
-    (view c.reach-found.new.seat) (searched_refl (view c.args.seat.now)) c.reach-found.ensures.view
+    (strayed (searched_refl (view c.args.seat.now)) c.reach-found.ensures.view c.args.key
     (sym c.if-not-has_entry.ensures)).0
 
 pub returns-then-not-has_entry-clause-dead : goal.returns-then-not-has_entry-clause-dead
 returns-then-not-has_entry-clause-dead g c = λ _.
-    (strayed
-    g.T.Tag.fits c.args.table.now.geometry.room c.args.at.slot c.args.weight c.args.name
-    c.reach-found.result c.args.key (view c.args.seat.now) (view c.args.seat.now)
-    (view c.reach-found.new.seat) (searched_refl (view c.args.seat.now)) c.reach-found.ensures.view
+    (strayed (searched_refl (view c.args.seat.now)) c.reach-found.ensures.view c.args.key
     (sym c.if-not-has_entry.ensures)).1
 
 pub matches-requires-clause-holds : goal.matches-requires-clause-holds
 matches-requires-clause-holds g c = λ _.
-    holds_slot g.T.Tag.fits c.args.table.now.geometry.room c.args.at.slot c.args.weight c.args.name
-    c.reach-found.result c.args.key (view c.args.seat.now) (view c.args.seat.now)
-    (view c.reach-found.new.seat) (searched_refl (view c.args.seat.now)) c.reach-found.ensures.view
+    holds_slot (searched_refl (view c.args.seat.now)) c.reach-found.ensures.view
     (sym c.if-not-has_entry.ensures) c.requires.fresh (searched_refl (view c.reach-found.new.seat))
 
 pub let_go-requires-clause-holds : goal.let_go-requires-clause-holds
 let_go-requires-clause-holds g c =
-    holds_used g.T.Tag.fits c.args.table.now.geometry.room c.args.at.slot c.args.weight c.args.name
-    c.reach-found.result c.args.key (view c.args.seat.now) (view c.args.seat.now)
-    (view c.reach-found.new.seat) (searched_refl (view c.args.seat.now)) c.reach-found.ensures.view
+    holds_used (searched_refl (view c.args.seat.now)) c.reach-found.ensures.view
     (sym c.if-not-has_entry.ensures) c.requires.fresh c.matches.ensures.view c.is_counting.ensures
 
 pub returns-then-matches-clause-view : goal.returns-then-matches-clause-view
 returns-then-matches-clause-view g c =
-    given_back g.T.Tag.fits c.args.table.now.geometry.room c.args.at.slot c.args.weight c.args.name
-    c.reach-found.result c.args.key (view c.args.seat.now) (view c.args.seat.now)
-    (view c.reach-found.new.seat) (searched_refl (view c.args.seat.now)) c.reach-found.ensures.view
+    given_back (searched_refl (view c.args.seat.now)) c.reach-found.ensures.view
     (sym c.if-not-has_entry.ensures) c.requires.fresh c.let_go.ensures.left.found
     c.matches.ensures.view c.let_go.ensures.left.view
 
 pub returns-then-matches-clause-met : goal.returns-then-matches-clause-met
 returns-then-matches-clause-met g c = λ _.
-    met_there g.T.Tag.fits c.args.table.now.geometry.room c.args.at.slot c.args.weight c.args.name
-    c.reach-found.result c.args.key (view c.args.seat.now) (view c.args.seat.now)
-    (view c.reach-found.new.seat) (searched_refl (view c.args.seat.now)) c.reach-found.ensures.view
+    met_there (searched_refl (view c.args.seat.now)) c.reach-found.ensures.view
     (sym c.if-not-has_entry.ensures) c.requires.fresh c.let_go.ensures.left.found
-    (view c.matches.new.seat) (c.matches.ensures.shown c.if-matches.true) (told_key g.T.Tag.fits
-    c.args.table.now.geometry.room c.args.at.slot c.args.weight c.args.name c.reach-found.result
-    c.args.key (view c.args.seat.now) (view c.args.seat.now) (view c.reach-found.new.seat)
-    (searched_refl (view c.args.seat.now)) c.reach-found.ensures.view
+    (view c.matches.new.seat) (c.matches.ensures.shown c.if-matches.true)
+    (told_key (searched_refl (view c.args.seat.now)) c.reach-found.ensures.view
     (sym c.if-not-has_entry.ensures) c.requires.fresh (λ e. key_of e ≡ c.args.key)
     (c.matches.ensures.equal c.if-matches.true)) (c.matches.ensures.met c.if-matches.true)
     c.let_go.ensures.left.view
 
 pub give_at-requires-clause-holds : goal.give_at-requires-clause-holds
 give_at-requires-clause-holds g c =
-    holds g.T.Tag.fits c.args.table.now.geometry.room c.args.at.slot c.args.weight c.args.name
-    c.reach-found.result c.args.key (view c.args.seat.now) (view c.args.seat.now)
-    (view c.reach-found.new.seat) (searched_refl (view c.args.seat.now)) c.reach-found.ensures.view
+    holds (searched_refl (view c.args.seat.now)) c.reach-found.ensures.view
     (sym c.if-not-has_entry.ensures) c.requires.fresh c.matches.ensures.view
 
 pub returns-clause-view : goal.returns-clause-view
 returns-clause-view g c =
-    given_back g.T.Tag.fits c.args.table.now.geometry.room c.args.at.slot c.args.weight c.args.name
-    c.reach-found.result c.args.key (view c.args.seat.now) (view c.args.seat.now)
-    (view c.reach-found.new.seat) (searched_refl (view c.args.seat.now)) c.reach-found.ensures.view
+    given_back (searched_refl (view c.args.seat.now)) c.reach-found.ensures.view
     (sym c.if-not-has_entry.ensures) c.requires.fresh c.give_at.result c.matches.ensures.view
     c.give_at.ensures.view
 
 pub returns-clause-dead : goal.returns-clause-dead
 returns-clause-dead g c = λ _.
-    (missed_there g.T.Tag.fits c.args.table.now.geometry.room c.args.at.slot c.args.weight
-    c.args.name c.reach-found.result c.args.key (view c.args.seat.now) (view c.args.seat.now)
-    (view c.reach-found.new.seat) (searched_refl (view c.args.seat.now)) c.reach-found.ensures.view
+    (missed_there (searched_refl (view c.args.seat.now)) c.reach-found.ensures.view
     (sym c.if-not-has_entry.ensures) c.requires.fresh c.give_at.result c.matches.ensures.view
-    c.give_at.ensures.view (λ shown. told_key g.T.Tag.fits c.args.table.now.geometry.room
-    c.args.at.slot c.args.weight c.args.name c.reach-found.result c.args.key (view c.args.seat.now)
-    (view c.args.seat.now) (view c.reach-found.new.seat) (searched_refl (view c.args.seat.now))
+    c.give_at.ensures.view (λ shown. told_key (searched_refl (view c.args.seat.now))
     c.reach-found.ensures.view (sym c.if-not-has_entry.ensures) c.requires.fresh
     (λ e. ¬ (key_of e ≡ c.args.key)) (c.matches.ensures.other c.if-matches.false shown))).1
 
@@ -129,11 +105,9 @@ returns-then-matches-clause-uses g c _ = (
       by = c.reach-found.ensures.by;
     };
     visible = c.matches.ensures.shown c.if-matches.true;
-    same = on_told g.T.Tag.fits c.args.table.now.geometry.room c.args.at.slot c.args.weight
-        c.args.name c.reach-found.result c.args.key (view c.args.seat.now) (view c.args.seat.now)
-        (view c.reach-found.new.seat) (searched_refl (view c.args.seat.now))
-        c.reach-found.ensures.view (sym c.if-not-has_entry.ensures) c.requires.fresh
-        (λ e. key_of e ≡ c.args.key) (c.matches.ensures.equal c.if-matches.true);
+    same = on_told (searched_refl (view c.args.seat.now)) c.reach-found.ensures.view
+        (sym c.if-not-has_entry.ensures) c.requires.fresh (λ e. key_of e ≡ c.args.key)
+        (c.matches.ensures.equal c.if-matches.true);
     held = c.matches.new.seat;
     loads = c.matches.ensures.loads c.if-matches.true;
     left = c.let_go.ensures.left.found;
@@ -181,11 +155,9 @@ returns-clause-passes g c _ = (
         c.matches.ensures.seeks (seeks_one c.args.table.now _ c.matches.new.seat c.give_at.new.seat
         c.give_at.ensures.event refl);
     kept = returns-clause-view g c;
-    other = λ shown. on_told g.T.Tag.fits c.args.table.now.geometry.room c.args.at.slot
-        c.args.weight c.args.name c.reach-found.result c.args.key (view c.args.seat.now)
-        (view c.args.seat.now) (view c.reach-found.new.seat) (searched_refl (view c.args.seat.now))
-        c.reach-found.ensures.view (sym c.if-not-has_entry.ensures) c.requires.fresh
-        (λ e. ¬ (key_of e ≡ c.args.key)) (c.matches.ensures.other c.if-matches.false shown);
+    other = λ shown. on_told (searched_refl (view c.args.seat.now)) c.reach-found.ensures.view
+        (sym c.if-not-has_entry.ensures) c.requires.fresh (λ e. ¬ (key_of e ≡ c.args.key))
+        (c.matches.ensures.other c.if-matches.false shown);
     loads = λ shown. other_then c.args.table.now c.args.at.slot c.reach-found.new.seat
         c.matches.new.seat c.give_at.new.seat (c.matches.ensures.differs c.if-matches.false shown)
         (unmarked_adds c.matches.new.seat c.give_at.new.seat given);

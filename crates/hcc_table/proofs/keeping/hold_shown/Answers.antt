@@ -4,7 +4,6 @@ use Rattle.hcc_rule.specs.Looked.{is_hidden}
 use Rattle.hcc_rule.specs.Seats.{view}
 use Rattle.hcc_table.proofs.Keepings.{holds_more, holds_same, more, shown_word, stray_word}
 use Rattle.hcc_table.proofs.Logs.{light, unmarked_one, unmarked_then}
-use Rattle.hcc_table.proofs.Pinnings.{no_key}
 use Rattle.hcc_table.proofs.Probes.{given_back, holds, holds_slot}
 use Rattle.hcc_table.proofs.Probings.{neither, visible_has}
 use Rattle.hcc_table.proofs.Searches.{searched_refl}
@@ -34,16 +33,12 @@ returns-then-not-has_entry-clause-holds g c = record {
 
 pub give_at-requires-clause-holds : goal.give_at-requires-clause-holds
 give_at-requires-clause-holds g c =
-    holds g.T.Tag.fits c.args.table.now.geometry.room c.args.at.slot 1 c.args.name
-    c.reach-found.result no_key (view c.args.seat.now) (view c.args.seat.now)
-    (view c.reach-found.new.seat) (searched_refl (view c.args.seat.now)) c.reach-found.ensures.view
+    holds (searched_refl (view c.args.seat.now)) c.reach-found.ensures.view
     (sym c.if-not-has_entry.ensures) c.requires.fresh (searched_refl (view c.reach-found.new.seat))
 
 pub returns-then-not-is_shown-clause-none : goal.returns-then-not-is_shown-clause-none
 returns-then-not-is_shown-clause-none g c =
-    given_back g.T.Tag.fits c.args.table.now.geometry.room c.args.at.slot 1 c.args.name
-    c.reach-found.result no_key (view c.args.seat.now) (view c.args.seat.now)
-    (view c.reach-found.new.seat) (searched_refl (view c.args.seat.now)) c.reach-found.ensures.view
+    given_back (searched_refl (view c.args.seat.now)) c.reach-found.ensures.view
     (sym c.if-not-has_entry.ensures) c.requires.fresh c.give_at.result
     (searched_refl (view c.reach-found.new.seat)) c.give_at.ensures.view
 
@@ -92,10 +87,8 @@ returns-clause-holds g c = record {
   shown = λ _. (
     rw c.is_counting.ensures refl,
     refl,
-    holds_slot g.T.Tag.fits c.args.table.now.geometry.room c.args.at.slot 1 c.args.name
-        c.reach-found.result no_key (view c.args.seat.now) (view c.args.seat.now)
-        (view c.reach-found.new.seat) (searched_refl (view c.args.seat.now))
-        c.reach-found.ensures.view (sym c.if-not-has_entry.ensures) c.requires.fresh
+    holds_slot (searched_refl (view c.args.seat.now)) c.reach-found.ensures.view
+        (sym c.if-not-has_entry.ensures) c.requires.fresh
         (searched_refl (view c.reach-found.new.seat)),
   );
   unshown = λ away. neither (is_visible c.reach-found.result)

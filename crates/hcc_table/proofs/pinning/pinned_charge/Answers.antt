@@ -5,7 +5,8 @@ use Rattle.hcc_rule.specs.declared.layout.TheConstants.{CHARGE}
 use Rattle.hcc_rule.specs.ToldOwners.{IsDataWord}
 use Rattle.hcc_word.specs.Word.{is_shareable}
 use Rattle.hcc_table.specs.Pinned.{is_held}
-use Rattle.hcc_table.proofs.Pinnings.{no_entry, no_key, no_references, charge_is, charged_each, counts_seek, held_word}
+use Rattle.hcc_table.proofs.Pinnings.{no_entry, no_references, charge_is, charged_each, counts_seek, held_word}
+use Rattle.hcc_table.specs.Searched.{Sought}
 use Rattle.hcc_table.proofs.Probes.{looked_at, holds, holds_slot, given_back, on_entry, one_entry, told_key}
 use Rattle.hcc_table.proofs.Probings.{neither}
 use Rattle.hcc_table.proofs.Searches.{read_there, searched_refl}
@@ -14,60 +15,49 @@ use Rattle.hcc_table.proofs.pinning.pinned_charge.Goals as goal
 
 pub read_at-charge-requires-clause-holds : goal.read_at-charge-requires-clause-holds
 read_at-charge-requires-clause-holds g c =
-    holds_slot g.T.Tag.fits c.args.table.now.geometry.room c.args.slot 1 c.args.name
-    c.reach-found.result no_key (view c.args.seat.now) (view c.look_at-word.new.seat)
-    (view c.reach-found.new.seat) (looked_at c.args.slot c.look_at-word.result _ _
-    c.look_at-word.ensures.view) c.reach-found.ensures.view (sym c.if-not-has_entry-2.ensures)
-    c.requires.fresh (searched_refl (view c.reach-found.new.seat))
+    holds_slot (looked_at c.args.slot c.look_at-word.result (view c.args.seat.now)
+    (view c.look_at-word.new.seat) c.look_at-word.ensures.view) c.reach-found.ensures.view (sym
+    c.if-not-has_entry-2.ensures) c.requires.fresh (searched_refl (view c.reach-found.new.seat))
 
 pub give_at-requires-clause-holds : goal.give_at-requires-clause-holds
 give_at-requires-clause-holds g c =
-    holds g.T.Tag.fits c.args.table.now.geometry.room c.args.slot 1 c.args.name c.reach-found.result
-    no_key (view c.args.seat.now) (view c.look_at-word.new.seat) (view c.reach-found.new.seat)
-    (looked_at c.args.slot c.look_at-word.result _ _ c.look_at-word.ensures.view)
-    c.reach-found.ensures.view (sym c.if-not-has_entry-2.ensures) c.requires.fresh
+    holds (looked_at c.args.slot c.look_at-word.result (view c.args.seat.now)
+    (view c.look_at-word.new.seat) c.look_at-word.ensures.view) c.reach-found.ensures.view
+    (sym c.if-not-has_entry-2.ensures) c.requires.fresh
     (read_there c.args.name CHARGE _ _ c.read_at-charge.ensures.view)
 
 pub returns-then-refs-eq0-2-clause-view : goal.returns-then-refs-eq0-2-clause-view
 returns-then-refs-eq0-2-clause-view g c =
-    given_back g.T.Tag.fits c.args.table.now.geometry.room c.args.slot 1 c.args.name
-    c.reach-found.result no_key (view c.args.seat.now) (view c.look_at-word.new.seat)
-    (view c.reach-found.new.seat)
-    (looked_at c.args.slot c.look_at-word.result _ _ c.look_at-word.ensures.view)
-    c.reach-found.ensures.view (sym c.if-not-has_entry-2.ensures) c.requires.fresh c.give_at.result
+    given_back (looked_at c.args.slot c.look_at-word.result (view c.args.seat.now)
+    (view c.look_at-word.new.seat) c.look_at-word.ensures.view) c.reach-found.ensures.view
+    (sym c.if-not-has_entry-2.ensures) c.requires.fresh c.give_at.result
     (read_there c.args.name CHARGE _ _ c.read_at-charge.ensures.view) c.give_at.ensures.view
 
 pub returns-clause-view : goal.returns-clause-view
 returns-clause-view g c =
-    given_back g.T.Tag.fits c.args.table.now.geometry.room c.args.slot 1 c.args.name
-    c.reach-found.result no_key (view c.args.seat.now) (view c.look_at-word.new.seat)
-    (view c.reach-found.new.seat)
-    (looked_at c.args.slot c.look_at-word.result _ _ c.look_at-word.ensures.view)
-    c.reach-found.ensures.view (sym c.if-not-has_entry-2.ensures) c.requires.fresh c.give_at.result
+    given_back (looked_at c.args.slot c.look_at-word.result (view c.args.seat.now)
+    (view c.look_at-word.new.seat) c.look_at-word.ensures.view) c.reach-found.ensures.view
+    (sym c.if-not-has_entry-2.ensures) c.requires.fresh c.give_at.result
     (read_there c.args.name CHARGE _ _ c.read_at-charge.ensures.view) c.give_at.ensures.view
 
 pub returns-clause-held : goal.returns-clause-held
 returns-clause-held g c some =
-    let entry = (c.reach-found.ensures.view.got (sym c.if-not-has_entry-2.ensures)).0 in
-    charged_each c.args.slot entry (view c.args.seat.now).records (charge_is entry (told_key
-    g.T.Tag.fits c.args.table.now.geometry.room c.args.slot 1 c.args.name c.reach-found.result
-    no_key (view c.args.seat.now) (view c.look_at-word.new.seat) (view c.reach-found.new.seat)
-    (looked_at c.args.slot c.look_at-word.result _ _ c.look_at-word.ensures.view)
-    c.reach-found.ensures.view (sym c.if-not-has_entry-2.ensures) c.requires.fresh
-    (λ e. IsDataWord e CHARGE c.read_at-charge.result) c.read_at-charge.ensures.word)) (one_entry
-    g.T.Tag.fits c.args.table.now.geometry.room c.args.slot 1 c.args.name c.reach-found.result
-    no_key (view c.args.seat.now) (view c.look_at-word.new.seat) (view c.reach-found.new.seat)
-    (looked_at c.args.slot c.look_at-word.result _ _ c.look_at-word.ensures.view)
-    c.reach-found.ensures.view (sym c.if-not-has_entry-2.ensures) c.requires.fresh)
+    let has = sym c.if-not-has_entry-2.ensures in
+    let entry = (c.reach-found.ensures.view.got has).0 in
+    let looked = looked_at c.args.slot c.look_at-word.result (view c.args.seat.now)
+    (view c.look_at-word.new.seat) c.look_at-word.ensures.view in
+    charged_each c.args.slot entry (view c.args.seat.now).records (charge_is entry (told_key looked
+    c.reach-found.ensures.view has c.requires.fresh
+    (λ e. IsDataWord e CHARGE c.read_at-charge.result) c.read_at-charge.ensures.word))
+    (one_entry looked c.reach-found.ensures.view has c.requires.fresh)
 
 pub returns-clause-small : goal.returns-clause-small
 returns-clause-small g c =
-    let got = c.reach-found.ensures.view.got (sym c.if-not-has_entry-2.ensures) in
-    rw (charge_is got.0 (told_key g.T.Tag.fits c.args.table.now.geometry.room c.args.slot 1
-    c.args.name c.reach-found.result no_key (view c.args.seat.now) (view c.look_at-word.new.seat)
-    (view c.reach-found.new.seat)
-    (looked_at c.args.slot c.look_at-word.result _ _ c.look_at-word.ensures.view)
-    c.reach-found.ensures.view (sym c.if-not-has_entry-2.ensures) c.requires.fresh
+    let has = sym c.if-not-has_entry-2.ensures in
+    let got = c.reach-found.ensures.view.got has in
+    let looked = looked_at c.args.slot c.look_at-word.result (view c.args.seat.now)
+    (view c.look_at-word.new.seat) c.look_at-word.ensures.view in
+    rw (charge_is got.0 (told_key looked c.reach-found.ensures.view has c.requires.fresh
     (λ e. IsDataWord e CHARGE c.read_at-charge.result) c.read_at-charge.ensures.word)) got.1.small
 
 pub returns-then-not-has_entry-2-clause-counts : goal.returns-then-not-has_entry-2-clause-counts
@@ -149,17 +139,9 @@ returns-clause-counts g c = record {
       corrects = c.reach-found.ensures.corrects;
       by = c.reach-found.ensures.by;
     };
-    counted = λ _. on_entry g.T.Tag.fits c.args.table.now.geometry.room c.args.slot 1 c.args.name
-        c.reach-found.result no_key (view c.args.seat.now) (view c.look_at-word.new.seat)
-        (view c.reach-found.new.seat)
-        (looked_at c.args.slot c.look_at-word.result _ _ c.look_at-word.ensures.view)
-        c.reach-found.ensures.view (sym c.if-not-has_entry-2.ensures) c.requires.fresh
-        (λ e. c.read_at-charge.result ≡ e.charge) (charge_is
-        (c.reach-found.ensures.view.got (sym c.if-not-has_entry-2.ensures)).0 (told_key g.T.Tag.fits
-        c.args.table.now.geometry.room c.args.slot 1 c.args.name c.reach-found.result no_key
-        (view c.args.seat.now) (view c.look_at-word.new.seat) (view c.reach-found.new.seat)
-        (looked_at c.args.slot c.look_at-word.result _ _ c.look_at-word.ensures.view)
-        c.reach-found.ensures.view (sym c.if-not-has_entry-2.ensures) c.requires.fresh
+    counted = λ _. on_entry looked c.reach-found.ensures.view has c.requires.fresh
+        (λ e. c.read_at-charge.result ≡ e.charge) (charge_is (c.reach-found.ensures.view.got has).0
+        (told_key looked c.reach-found.ensures.view has c.requires.fresh
         (λ e. IsDataWord e CHARGE c.read_at-charge.result) c.read_at-charge.ensures.word));
     uncounted = λ none. neither (is_held c.reach-found.result)
         (held_word c.reach-found.result (sym c.if-not-has_entry-2.ensures)
@@ -178,6 +160,14 @@ returns-clause-counts g c = record {
   };
 }
   where
+    has : is_shareable c.reach-found.result ≡ true
+    has = sym c.if-not-has_entry-2.ensures
+
+    looked : Sought (view c.args.seat.now) (view c.look_at-word.new.seat)
+    looked =
+        looked_at c.args.slot c.look_at-word.result (view c.args.seat.now)
+        (view c.look_at-word.new.seat) c.look_at-word.ensures.view
+
     held : is_held c.look_at-word.result ≡ true
     held = held_word c.look_at-word.result (sym c.if-not-has_entry.ensures)
         (λ none. c.if-refs-eq0.false (c.refs.ensures.field ∙ none))

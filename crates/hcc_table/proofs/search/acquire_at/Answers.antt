@@ -3,6 +3,7 @@ use Rattle.hcc_word.specs.Word.{is_shareable, is_visible}
 use Rattle.hcc_rule.specs.Addresses.{address_of_meta}
 use Rattle.hcc_rule.specs.Seats.{atomic, view}
 use Rattle.hcc_rule.specs.Words.{key_of}
+use Rattle.hcc_table.specs.Searched.{Sought}
 use Rattle.hcc_table.specs.Steps.{AddsUnmarked}
 use Rattle.hcc_table.proofs.Logs.{adds_one, among_after, among_first, among_then, light, unmarked_adds, unmarked_one, unmarked_then, unmarked_zero}
 use Rattle.hcc_table.proofs.Probes.{looked_at, buried_by_look, given_back, strayed, holds, holds_slot, told_key, missed_there, found_there, got_record, on_told}
@@ -21,64 +22,48 @@ returns-then-not-is_shown-clause-missed g c =
 pub returns-then-not-has_entry-clause-missed : goal.returns-then-not-has_entry-clause-missed
 returns-then-not-has_entry-clause-missed g c =
     let stray = sym c.if-not-has_entry.ensures in
+    let looked = looked_at c.args.at.slot c.look_at-seen.result (view c.args.seat.now)
+    (view c.look_at-seen.new.seat) c.look_at-seen.ensures.view in
     rw (c.matches.ensures.unshown (stray_unshown c.reach-found.result stray))
-    (strayed g.T.Tag.fits c.args.table.now.geometry.room c.args.at.slot 1 c.args.name
-    c.reach-found.result c.args.key (view c.args.seat.now) (view c.look_at-seen.new.seat)
-    (view c.reach-found.new.seat)
-    (looked_at c.args.at.slot c.look_at-seen.result _ _ c.look_at-seen.ensures.view)
-    c.reach-found.ensures.view stray)
+    (strayed looked c.reach-found.ensures.view c.args.key stray)
 
 pub matches-requires-clause-holds : goal.matches-requires-clause-holds
-matches-requires-clause-holds g c = λ shown.
-    holds_slot g.T.Tag.fits c.args.table.now.geometry.room c.args.at.slot 1 c.args.name
-    c.reach-found.result c.args.key (view c.args.seat.now) (view c.look_at-seen.new.seat)
-    (view c.reach-found.new.seat) (looked_at c.args.at.slot c.look_at-seen.result _ _
-    c.look_at-seen.ensures.view) c.reach-found.ensures.view (visible_has c.reach-found.result shown)
+matches-requires-clause-holds g c shown =
+    let looked = looked_at c.args.at.slot c.look_at-seen.result (view c.args.seat.now)
+    (view c.look_at-seen.new.seat) c.look_at-seen.ensures.view in
+    holds_slot looked c.reach-found.ensures.view (visible_has c.reach-found.result shown)
     c.requires.fresh (searched_refl (view c.reach-found.new.seat))
 
 pub returns-then-matches-clause-found : goal.returns-then-matches-clause-found
 returns-then-matches-clause-found g c =
-    let has = visible_has c.reach-found.result (c.matches.ensures.shown c.if-matches.true) in (
-      got_record g.T.Tag.fits c.args.table.now.geometry.room c.args.at.slot 1 c.args.name
-          c.reach-found.result c.args.key
-          (view c.args.seat.now) (view c.look_at-seen.new.seat) (view c.reach-found.new.seat)
-          (looked_at c.args.at.slot c.look_at-seen.result _ _ c.look_at-seen.ensures.view)
-          c.reach-found.ensures.view has c.requires.fresh,
-      found_there g.T.Tag.fits c.args.table.now.geometry.room c.args.at.slot 1 c.args.name
-          c.reach-found.result c.args.key (view c.args.seat.now) (view c.look_at-seen.new.seat)
-          (view c.reach-found.new.seat) (looked_at c.args.at.slot c.look_at-seen.result _ _
-          c.look_at-seen.ensures.view) c.reach-found.ensures.view has c.requires.fresh refl
-          (c.matches.ensures.shown c.if-matches.true) (told_key g.T.Tag.fits
-          c.args.table.now.geometry.room c.args.at.slot 1 c.args.name c.reach-found.result
-          c.args.key (view c.args.seat.now) (view c.look_at-seen.new.seat)
-          (view c.reach-found.new.seat) (looked_at c.args.at.slot c.look_at-seen.result _ _
-          c.look_at-seen.ensures.view) c.reach-found.ensures.view has c.requires.fresh
-          (λ e. key_of e ≡ c.args.key) (c.matches.ensures.equal c.if-matches.true))
+    let shown = c.matches.ensures.shown c.if-matches.true in
+    let has = visible_has c.reach-found.result shown in
+    let looked = looked_at c.args.at.slot c.look_at-seen.result (view c.args.seat.now)
+    (view c.look_at-seen.new.seat) c.look_at-seen.ensures.view in
+    let asked = told_key looked c.reach-found.ensures.view has c.requires.fresh
+    (λ e. key_of e ≡ c.args.key) (c.matches.ensures.equal c.if-matches.true) in (
+      got_record looked c.reach-found.ensures.view has c.requires.fresh,
+      found_there looked c.reach-found.ensures.view has c.requires.fresh refl shown asked
           c.matches.ensures.view (c.matches.ensures.met c.if-matches.true),
       refl,
     )
 
 pub give_at-requires-clause-holds : goal.give_at-requires-clause-holds
 give_at-requires-clause-holds g c =
-    holds g.T.Tag.fits c.args.table.now.geometry.room c.args.at.slot 1 c.args.name
-    c.reach-found.result c.args.key (view c.args.seat.now) (view c.look_at-seen.new.seat)
-    (view c.reach-found.new.seat) (looked_at c.args.at.slot c.look_at-seen.result _ _
-    c.look_at-seen.ensures.view) c.reach-found.ensures.view (sym c.if-not-has_entry.ensures)
-    c.requires.fresh c.matches.ensures.view
+    let looked = looked_at c.args.at.slot c.look_at-seen.result (view c.args.seat.now)
+    (view c.look_at-seen.new.seat) c.look_at-seen.ensures.view in
+    holds looked c.reach-found.ensures.view (sym c.if-not-has_entry.ensures) c.requires.fresh
+    c.matches.ensures.view
 
 pub returns-clause-missed : goal.returns-clause-missed
 returns-clause-missed g c =
-    missed_there g.T.Tag.fits c.args.table.now.geometry.room c.args.at.slot 1 c.args.name
-    c.reach-found.result c.args.key (view c.args.seat.now) (view c.look_at-seen.new.seat)
-    (view c.reach-found.new.seat)
-    (looked_at c.args.at.slot c.look_at-seen.result _ _ c.look_at-seen.ensures.view)
-    c.reach-found.ensures.view (sym c.if-not-has_entry.ensures) c.requires.fresh c.give_at.result
-    c.matches.ensures.view c.give_at.ensures.view (λ shown. told_key g.T.Tag.fits
-    c.args.table.now.geometry.room c.args.at.slot 1 c.args.name c.reach-found.result c.args.key
-    (view c.args.seat.now) (view c.look_at-seen.new.seat) (view c.reach-found.new.seat)
-    (looked_at c.args.at.slot c.look_at-seen.result _ _ c.look_at-seen.ensures.view)
-    c.reach-found.ensures.view (sym c.if-not-has_entry.ensures) c.requires.fresh
-    (λ e. ¬ (key_of e ≡ c.args.key)) (c.matches.ensures.other c.if-matches.false shown))
+    let looked = looked_at c.args.at.slot c.look_at-seen.result (view c.args.seat.now)
+    (view c.look_at-seen.new.seat) c.look_at-seen.ensures.view in
+    let has = sym c.if-not-has_entry.ensures in
+    missed_there looked c.reach-found.ensures.view has c.requires.fresh c.give_at.result
+    c.matches.ensures.view c.give_at.ensures.view (λ shown. told_key looked
+    c.reach-found.ensures.view has c.requires.fresh (λ e. ¬ (key_of e ≡ c.args.key))
+    (c.matches.ensures.other c.if-matches.false shown))
 
 pub returns-then-matches-clause-acquired : goal.returns-then-matches-clause-acquired
 returns-then-matches-clause-acquired g c =
@@ -200,18 +185,11 @@ returns-clause-passes g c = (
           c.matches.ensures.seeks (seeks_one c.args.table.now _ c.matches.new.seat
           c.give_at.new.seat
           c.give_at.ensures.event refl);
-      kept = given_back g.T.Tag.fits c.args.table.now.geometry.room c.args.at.slot 1 c.args.name
-          c.reach-found.result c.args.key (view c.look_at-seen.new.seat)
-          (view c.look_at-seen.new.seat) (view c.reach-found.new.seat)
-          (searched_refl (view c.look_at-seen.new.seat)) c.reach-found.ensures.view
+      kept = given_back (searched_refl (view c.look_at-seen.new.seat)) c.reach-found.ensures.view
           (sym c.if-not-has_entry.ensures) (rw c.look_at-seen.ensures.view c.requires.fresh)
           c.give_at.result c.matches.ensures.view c.give_at.ensures.view;
-      other = λ shown. on_told g.T.Tag.fits c.args.table.now.geometry.room c.args.at.slot 1
-          c.args.name c.reach-found.result c.args.key (view c.args.seat.now)
-          (view c.look_at-seen.new.seat) (view c.reach-found.new.seat)
-          (looked_at c.args.at.slot c.look_at-seen.result _ _ c.look_at-seen.ensures.view)
-          c.reach-found.ensures.view (sym c.if-not-has_entry.ensures) c.requires.fresh
-          (λ e. ¬ (key_of e ≡ c.args.key))
+      other = λ shown. on_told looked c.reach-found.ensures.view (sym c.if-not-has_entry.ensures)
+          c.requires.fresh (λ e. ¬ (key_of e ≡ c.args.key))
           (c.matches.ensures.other c.if-matches.false shown);
       loads = λ shown. other_then c.args.table.now c.args.at.slot c.reach-found.new.seat
           c.matches.new.seat c.give_at.new.seat (c.matches.ensures.differs c.if-matches.false shown)
@@ -220,6 +198,11 @@ returns-clause-passes g c = (
   },
 )
   where
+    looked : Sought (view c.args.seat.now) (view c.look_at-seen.new.seat)
+    looked =
+        looked_at c.args.at.slot c.look_at-seen.result (view c.args.seat.now)
+        (view c.look_at-seen.new.seat) c.look_at-seen.ensures.view
+
     given : AddsUnmarked c.matches.new.seat c.give_at.new.seat
     given =
         unmarked_one _ c.matches.new.seat c.give_at.new.seat c.give_at.ensures.step.step
@@ -239,16 +222,17 @@ returns-then-matches-clause-catches g c = record {
     by = c.reach-found.ensures.by;
   };
   visible = c.matches.ensures.shown c.if-matches.true;
-  same = on_told g.T.Tag.fits c.args.table.now.geometry.room c.args.at.slot 1 c.args.name
-      c.reach-found.result c.args.key (view c.args.seat.now) (view c.look_at-seen.new.seat)
-      (view c.reach-found.new.seat)
-      (looked_at c.args.at.slot c.look_at-seen.result _ _ c.look_at-seen.ensures.view)
-      c.reach-found.ensures.view has c.requires.fresh
-      (λ e. key_of e ≡ c.args.key) (c.matches.ensures.equal c.if-matches.true);
+  same = on_told looked c.reach-found.ensures.view has c.requires.fresh (λ e. key_of e ≡ c.args.key)
+      (c.matches.ensures.equal c.if-matches.true);
   loads = c.matches.ensures.loads c.if-matches.true;
   seeks = c.matches.ensures.seeks;
   kept = c.matches.ensures.view;
 }
   where
+    looked : Sought (view c.args.seat.now) (view c.look_at-seen.new.seat)
+    looked =
+        looked_at c.args.at.slot c.look_at-seen.result (view c.args.seat.now)
+        (view c.look_at-seen.new.seat) c.look_at-seen.ensures.view
+
     has : is_shareable c.reach-found.result ≡ true
     has = visible_has c.reach-found.result (c.matches.ensures.shown c.if-matches.true)
