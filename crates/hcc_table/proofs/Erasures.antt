@@ -325,8 +325,8 @@ module _ {T : Type 0} where
           )
 
   -- The entry that was found is erased.
-  module _ (fits : T → Key → List ℕ → Type 0) (room slot name n slots charge : ℕ) (key : Key)
-      (v a w : View T) (r : Record) (fresh : record_in name v.records ≡ None)
+  module _ {fits : T → Key → List ℕ → Type 0} {room slot name : ℕ} (n slots charge : ℕ) {key : Key}
+      {v a : View T} (w : View T) {r : Record} (fresh : record_in name v.records ≡ None)
       (found : IsFound fits room slot name key v a r) where
     -- what hiding what is held there told
     abbrev pub Told : Type 0

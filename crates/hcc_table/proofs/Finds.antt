@@ -127,10 +127,10 @@ module _ {T : Type 0} where
 
   module _ (slots : ℕ) (key : Key) (power : MOST_SLOTS % slots ≡ 0) where
     -- A search begins.
-    pub begins : {walk : Walk} (seat : SeatOf T) → walk.probe ≡ key.w1
+    pub begins : (walk : Walk) (seat : SeatOf T) → walk.probe ≡ key.w1
         → walk.stride ≡ bit_or key.w0 1
         → walk.mask ≡ slots - 1 → IsSearching slots key 0 walk seat seat
-    begins seat probe stride mask = record {
+    begins walk seat probe stride mask = record {
       same = record { table = refl; number = refl; slots = refl };
       sought = searched_refl (view seat);
       walking = record {
@@ -142,18 +142,17 @@ module _ {T : Type 0} where
       within = λ some. absurd (omega arith);
     }
 
-    module _ (i n slot : ℕ) (walk : Walk) (seat now : SeatOf T)
-        (s : IsSearching slots key i walk seat now)
-        (there : slot ≡ bit_and walk.probe walk.mask) where
+  module _ {slots : ℕ} {key : Key} {i slot : ℕ} {walk : Walk} {seat now : SeatOf T}
+      (s : IsSearching slots key i walk seat now) (there : slot ≡ bit_and walk.probe walk.mask)
+    where
       -- the slot that is probed
       pub slot_is : slot ≡ probe_slot slots key i
       slot_is = there ∙ s.walking.probe
 
-      module _ (probed counted : SeatOf T) (same : IsSameSeat now probed)
-          (same_then : IsSameSeat probed counted)
-          (missed : Sought (view now) (view probed)
-          × Buried key (λ z. z ≡ slot) (view now) (view probed))
-          (kept : view counted ≡ view probed)
+      module _ (power : MOST_SLOTS % slots ≡ 0) (n : ℕ) {probed counted : SeatOf T}
+          (same : IsSameSeat now probed) (same_then : IsSameSeat probed counted) (missed : Sought
+          (view now) (view probed)
+          × Buried key (λ z. z ≡ slot) (view now) (view probed)) (kept : view counted ≡ view probed)
           (held : Each (λ (r : Record). times slot (trail_to slots (key_of r.entry) r.slot) ≤ n)
           (view probed).records)
           (within : Each (λ (r : Record). r.slot < slots) (view probed).records) where
@@ -196,14 +195,15 @@ module _ {T : Type 0} where
               (rw (← records_are, ← slot_is) held) low;
         }
 
-    -- It ends after all probes.
-    pub ends_all : {i : ℕ} {walk : Walk} {seat now : SeatOf T} → 0 < slots → slots ≤ i → i ≤ slots
-        → IsSearching slots key i walk seat now → IsMissed key (view seat) (view now)
-    ends_all {i} {walk} {seat} {now} some least most s =
-        let same : i ≡ slots = omega arith in
-        record {
-          sought = s.sought;
-          dead = all_seen slots key power (view seat) (view now)
-              (subst (λ z. Buried key (IsBefore slots key z) (view seat) (view now)) same s.buried)
-              (s.within (omega arith));
-        }
+  -- It ends after all probes.
+  pub ends_all : {slots : ℕ} {key : Key} → MOST_SLOTS % slots ≡ 0 → {i : ℕ} {walk : Walk}
+      {seat now : SeatOf T} → 0 < slots → slots ≤ i → i ≤ slots
+      → IsSearching slots key i walk seat now → IsMissed key (view seat) (view now)
+  ends_all {slots} {key} power {i} {walk} {seat} {now} some least most s =
+      let same : i ≡ slots = omega arith in
+      record {
+        sought = s.sought;
+        dead = all_seen slots key power (view seat) (view now)
+            (subst (λ z. Buried key (IsBefore slots key z) (view seat) (view now)) same s.buried)
+            (s.within (omega arith));
+      }

@@ -55,12 +55,12 @@ module _ {T A : Type 0} (fits : T → Key → List ℕ → Type 0) (table : Rule
     roomy = tt;
   }
 
-  module _ (i slot word n : ℕ) (room left : Bool) (caught : Option Stamp) (all here sum : Erased)
-      (e counted f : Effort)
-      (old now mid new : SeatOf T) (h : HasHid i room all e f old now)
-      (down : left ≡ true → room ≡ true)
-      (there : slot ≡ probe_slot (slots_of table) key i) (g : Effort)
-      (visited : VisitedSlots 1 f counted)
+module _ {T A : Type 0} {fits : T → Key → List ℕ → Type 0} {table : RuleTable T A} {key : Key}
+    {name : ℕ} where
+  module _ {i slot word n : ℕ} {room left : Bool} {caught : Option Stamp} {all here : Erased}
+      (sum : Erased) {e counted f g : Effort} {old now mid new : SeatOf T}
+      (h : HasHid fits table key name i room all e f old now) (down : left ≡ true → room ≡ true)
+      (there : slot ≡ probe_slot (slots_of table) key i) (visited : VisitedSlots 1 f counted)
       (does : PassesOrHides fits table key name room slot word caught here counted g now mid)
       (is_sum : (sum.hidden ≡ all.hidden + here.hidden) × (sum.slots ≡ all.slots + here.slots)
       × (sum.charge ≡ all.charge + here.charge))
@@ -117,10 +117,9 @@ module _ {T A : Type 0} (fits : T → Key → List ℕ → Type 0) (table : Rule
         h.visits.seen h.roomy) (down, tt)
 
     -- It goes on,
-    pub hid_then : ¬ (n ≡ 0) → HasHid (i + 1) left sum e g old new
+    pub hid_then : ¬ (n ≡ 0) → HasHid fits table key name (i + 1) left sum e g old new
     hid_then some = record {
-      visits = seen_then (slots_of table) key (HidAt fits table key name) Goes i slot probe e f g
-          old now new h.visits there at some;
+      visits = seen_then h.visits there at some;
       hidden = hidden_more;
       slots = slots_more;
       charge = charge_more;
@@ -133,8 +132,7 @@ module _ {T A : Type 0} (fits : T → Key → List ℕ → Type 0) (table : Rule
     hides_here none = record {
       earlier = h.visits.seen;
       last = probe;
-      probes = more_seen (slots_of table) key (HidAt fits table key name) Goes i slot probe e f g
-          old now new h.visits there at;
+      probes = more_seen h.visits there at;
       goes_on = h.visits.goes_on;
       ends = inl none;
       hidden = hidden_more;
@@ -146,7 +144,7 @@ module _ {T A : Type 0} (fits : T → Key → List ℕ → Type 0) (table : Rule
 
   -- It ends after all probes.
   pub hides_every : {i : ℕ} {room : Bool} {all : Erased} {e f : Effort} {old now : SeatOf T}
-      → HasHid i room all e f old now → 0 < i → i ≡ slots_of table
+      → HasHid fits table key name i room all e f old now → 0 < i → i ≡ slots_of table
       → HidesAll fits table key name room all e f old now
   hides_every {i} {room} {all} {e} {f} {old} {now} h some whole = record {
     earlier = split.0;
@@ -155,7 +153,7 @@ module _ {T A : Type 0} (fits : T → Key → List ℕ → Type 0) (table : Rule
         subst (λ (ps : List HideProbe).
         AtProbes (slots_of table) key (HidAt fits table key name) 0 ps e f old now) split.2
         h.visits.probes;
-    goes_on = each_front Goes split.0 (split.1 ∷ [])
+    goes_on = each_front (Goes fits table key name) split.0 (split.1 ∷ [])
         (subst (λ (ps : List HideProbe). HidingGoesOn ps) split.2 h.visits.goes_on);
     ends = inr (sym (sym h.visits.long ∙ ap length split.2 ∙ one_longer split.0 split.1) ∙ whole);
     hidden = h.hidden ∙ ap (total (λ (p : HideProbe). p.done.hidden)) split.2;

@@ -78,77 +78,76 @@ module _ {T : Type 0} where
       small = rw none (omega arith);
     }
 
-    module _ (i n slot : ℕ) (walk : Walk) (all here sum : Erased) (seat now : SeatOf T)
-        (s : IsHiding slots key i walk all seat now)
-        (there : slot ≡ bit_and walk.probe walk.mask) where
+  module _ {slots : ℕ} {key : Key} {i slot : ℕ} {walk : Walk} {all : Erased} {seat now : SeatOf T}
+      (s : IsHiding slots key i walk all seat now) (there : slot ≡ bit_and walk.probe walk.mask)
+    where
       slot_at : slot ≡ probe_slot slots key i
       slot_at = there ∙ s.walking.probe
 
-      module _ (hid counted : SeatOf T) (same : IsSameSeat now hid)
-          (same_then : IsSameSeat hid counted)
+      module _ (power : MOST_SLOTS % slots ≡ 0) (n : ℕ) (here sum : Erased) {hid counted : SeatOf T}
+          (same : IsSameSeat now hid) (same_then : IsSameSeat hid counted)
           (erased : IsErased key here.hidden here.slots here.charge (view now) (view hid))
           (dead : Buried key (λ z. z ≡ slot) (view now) (view hid))
           (few : (here.hidden ≤ 1) × (here.slots ≤ 1) × (here.charge ≤ here.slots * (2 ^ 32 - 1)))
           (is_sum : (sum.hidden ≡ all.hidden + here.hidden) × (sum.slots ≡ all.slots + here.slots)
-          × (sum.charge ≡ all.charge + here.charge))
-          (kept : view counted ≡ view hid)
-          (held : Each (λ (r : Record). times slot (trail_to slots (key_of r.entry) r.slot) ≤ n)
-          (view hid).records)
-          (within : Each (λ (r : Record). r.slot < slots) (view hid).records) where
-        pub both : IsErased key sum.hidden sum.slots sum.charge (view seat) (view counted)
-        both = rw (kept, is_sum.0, is_sum.1, is_sum.2) (erased_then s.erased erased)
+          × (sum.charge ≡ all.charge + here.charge)) (kept : view counted ≡ view hid) (held : Each
+          (λ (r : Record). times slot (trail_to slots (key_of r.entry) r.slot) ≤ n)
+          (view hid).records) (within : Each (λ (r : Record). r.slot < slots) (view hid).records)
+        where
+          pub both : IsErased key sum.hidden sum.slots sum.charge (view seat) (view counted)
+          both = rw (kept, is_sum.0, is_sum.1, is_sum.2) (erased_then s.erased erased)
 
-        records_same : (view hid).records ≡ (view seat).records
-        records_same = erased.records ∙ s.erased.records
+          records_same : (view hid).records ≡ (view seat).records
+          records_same = erased.records ∙ s.erased.records
 
-        more_buried : Buried key (IsBefore slots key (i + 1)) (view seat) (view counted)
-        more_buried = rw kept
-            (buried_more slots key i (view seat) (view now) (view hid) s.erased.records
-            erased.erases.dead s.buried (rw (← slot_at) dead))
+          more_buried : Buried key (IsBefore slots key (i + 1)) (view seat) (view counted)
+          more_buried = rw kept (buried_more slots key i (view seat) (view now) (view hid)
+              s.erased.records erased.erases.dead s.buried (rw (← slot_at) dead))
 
-        all_within : Each (λ (r : Record). r.slot < slots) (view seat).records
-        all_within = rw (← records_same) within
+          all_within : Each (λ (r : Record). r.slot < slots) (view seat).records
+          all_within = rw (← records_same) within
 
-        pub hides_on : {next : Walk} → next.probe ≡ (walk.probe + walk.stride) % 2 ^ 64
-            → next.stride ≡ walk.stride
-            → next.mask ≡ walk.mask → IsHiding slots key (i + 1) next sum seat counted
-        hides_on probe stride mask = record {
-          same = seat_then seat now counted s.same (seat_then now hid counted same same_then);
-          erased = both;
-          walking = record {
-            probe =
-                rw (probe, mask, s.walking.stride, s.walking.mask)
-                (next_masked slots key power i walk.probe (rw (← s.walking.mask) s.walking.probe));
-            stride = stride ∙ s.walking.stride;
-            mask = mask ∙ s.walking.mask;
-          };
-          buried = more_buried;
-          within = λ some. all_within;
-          few = let old = s.few in let one = few.0 in let is = is_sum.0 in omega arith;
-          fewer = let old = s.fewer in let one = few.1 in let is = is_sum.1 in omega arith;
-          small = let old = s.small in let one = few.2 in let is = is_sum.2 in
-              let more = is_sum.1 in omega arith;
-        }
+          pub hides_on : {next : Walk} → next.probe ≡ (walk.probe + walk.stride) % 2 ^ 64
+              → next.stride ≡ walk.stride
+              → next.mask ≡ walk.mask → IsHiding slots key (i + 1) next sum seat counted
+          hides_on probe stride mask = record {
+            same = seat_then seat now counted s.same (seat_then now hid counted same same_then);
+            erased = both;
+            walking = record {
+              probe =
+                  rw (probe, mask, s.walking.stride, s.walking.mask) (next_masked slots key power i
+                  walk.probe (rw (← s.walking.mask) s.walking.probe));
+              stride = stride ∙ s.walking.stride;
+              mask = mask ∙ s.walking.mask;
+            };
+            buried = more_buried;
+            within = λ some. all_within;
+            few = let old = s.few in let one = few.0 in let is = is_sum.0 in omega arith;
+            fewer = let old = s.fewer in let one = few.1 in let is = is_sum.1 in omega arith;
+            small = let old = s.small in let one = few.2 in let is = is_sum.2 in
+                let more = is_sum.1 in omega arith;
+          }
 
-        pub hides_last : n ≡ 0 → AllDead key (view seat) (view counted)
-        hides_last over = ended slots key power i (view seat) (view counted) over more_buried
-            (rw (← records_same, ← slot_at) held) all_within
+          pub hides_last : n ≡ 0 → AllDead key (view seat) (view counted)
+          hides_last over = ended slots key power i (view seat) (view counted) over more_buried
+              (rw (← records_same, ← slot_at) held) all_within
 
-        pub few_more : i < slots → (sum.hidden ≤ slots) × (sum.slots ≤ slots)
-        few_more low =
-            let old = s.few in
-            let fewer = s.fewer in
-            let one = few.0 in
-            let other = few.1 in
-            let is = is_sum.0 in
-            let total = is_sum.1 in
-            (omega arith, omega arith)
+          pub few_more : i < slots → (sum.hidden ≤ slots) × (sum.slots ≤ slots)
+          few_more low =
+              let old = s.few in
+              let fewer = s.fewer in
+              let one = few.0 in
+              let other = few.1 in
+              let is = is_sum.0 in
+              let total = is_sum.1 in
+              (omega arith, omega arith)
 
-    pub hides_all : {i : ℕ} {walk : Walk} {all : Erased} {seat now : SeatOf T} → 0 < slots
-        → slots ≤ i → i ≤ slots
-        → IsHiding slots key i walk all seat now → AllDead key (view seat) (view now)
-    hides_all {i} {walk} {all} {seat} {now} some least most s =
-        let same : i ≡ slots = omega arith in
-        all_seen slots key power (view seat) (view now)
-        (subst (λ z. Buried key (IsBefore slots key z) (view seat) (view now)) same s.buried)
-        (s.within (omega arith))
+  pub hides_all : {slots : ℕ} {key : Key} → MOST_SLOTS % slots ≡ 0
+      → {i : ℕ} {walk : Walk} {all : Erased} {seat now : SeatOf T} → 0 < slots
+      → slots ≤ i → i ≤ slots
+      → IsHiding slots key i walk all seat now → AllDead key (view seat) (view now)
+  hides_all {slots} {key} power {i} {walk} {all} {seat} {now} some least most s =
+      let same : i ≡ slots = omega arith in
+      all_seen slots key power (view seat) (view now)
+      (subst (λ z. Buried key (IsBefore slots key z) (view seat) (view now)) same s.buried)
+      (s.within (omega arith))

@@ -54,7 +54,7 @@ module _ {T : Type 0} where
       dead = buried_none slots draft.key (view seat) (view seat);
     }
 
-    module _ (i slot : ℕ) (walk : Walk) (seat now : SeatOf T)
+    module _ {i slot : ℕ} {walk : Walk} {seat now : SeatOf T}
         (s : IsTrying slots draft.key i walk seat now)
         (there : slot ≡ bit_and walk.probe walk.mask) where
       abbrev trail : List ℕ

@@ -92,23 +92,25 @@ module _ {T P : Type 0} (slots : ℕ) (key : Key)
     seen_none effort seat =
         record { seen = []; long = refl; probes = (refl, refl); goes_on = tt }
 
-    module _ (i slot : ℕ) (p : P) (e f g : Effort) (a b c : SeatOf T) (h : HasSeen i e f a b)
-        (there : slot ≡ probe_slot slots key i) (one : At slot p f g b c) where
-      -- one probe more
-      pub more_seen : AtProbes slots key At 0 (h.seen ++ p ∷ []) e g a c
-      more_seen =
-          probes_then 0 h.seen e a h.probes at (subst (λ z. At z p f g b c) there one)
-        where
-          at : i ≡ 0 + length h.seen
-          at = omega (arith, h.long)
+module _ {T P : Type 0} {slots : ℕ} {key : Key}
+    {At : (slot : ℕ) → P → Effort → Effort → SeatOf T → SeatOf T → Type 0} {Goes : P → Type 0}
+    {i slot : ℕ} {p : P} {e f g : Effort} {a b c : SeatOf T} (h : HasSeen slots key At Goes i e f a
+    b) (there : slot ≡ probe_slot slots key i) (one : At slot p f g b c) where
+  -- one probe more
+  pub more_seen : AtProbes slots key At 0 (h.seen ++ p ∷ []) e g a c
+  more_seen =
+      probes_then slots key At 0 h.seen e a h.probes at (subst (λ z. At z p f g b c) there one)
+    where
+      at : i ≡ 0 + length h.seen
+      at = omega (arith, h.long)
 
-      abbrev pub seen_then : Goes p → HasSeen (i + 1) e g a c
-      seen_then goes = record {
-        seen = h.seen ++ p ∷ [];
-        long = one_longer h.seen p ∙ ap (λ n. n + 1) h.long;
-        probes = more_seen;
-        goes_on = each_append Goes h.seen (p ∷ []) h.goes_on (goes, tt);
-      }
+  abbrev pub seen_then : Goes p → HasSeen slots key At Goes (i + 1) e g a c
+  seen_then goes = record {
+    seen = h.seen ++ p ∷ [];
+    long = one_longer h.seen p ∙ ap (λ n. n + 1) h.long;
+    probes = more_seen;
+    goes_on = each_append Goes h.seen (p ∷ []) h.goes_on (goes, tt);
+  }
 
 module _ {T A : Type 0} (table : RuleTable T A) {key : Key} (slot : ℕ) where
   -- loads of both halves of a key
@@ -176,12 +178,14 @@ module _ {T A : Type 0} (fits : T → Key → List ℕ → Type 0) (table : Rule
       seen_none (slots_of table) key (Probed fits table key name)
       (λ (p : Probe). ¬ (p.displacement ≡ 0))
 
-  module _ (i slot word n : ℕ) (e f g : Effort) (old now mid new : SeatOf T)
-      (h : HasPassed i e f old now) (there : slot ≡ probe_slot (slots_of table) key i)
-      (passes : Passes fits table key name (Looks table slot) slot 1 word f g now mid)
-      (counts : Makes (address_of_displacement table slot) 0 0 n mid new)
-      (event : IsEvent table (count_done slot n (view mid)) mid new)
-      (kept : view new ≡ view mid) where
+module _ {T A : Type 0} {fits : T → Key → List ℕ → Type 0} {table : RuleTable T A} {key : Key}
+    {name : ℕ} where
+  module _ {i slot word n : ℕ} {e f g : Effort} {old now mid new : SeatOf T}
+      (h : HasPassed fits table key name i e f old now)
+      (there : slot ≡ probe_slot (slots_of table) key i) (passes : Passes fits table key name
+      (Looks table slot) slot 1 word f g now mid) (counts : Makes
+      (address_of_displacement table slot) 0 0 n mid new) (event : IsEvent table
+      (count_done slot n (view mid)) mid new) (kept : view new ≡ view mid) where
     abbrev here : Probe
     here = record { word = word; displacement = n }
 
@@ -190,10 +194,8 @@ module _ {T A : Type 0} (fits : T → Key → List ℕ → Type 0) (table : Rule
         record { mid = mid; passes = passes; counts = counts; event = event; kept = kept }
 
     -- It goes on,
-    pub passed_then : ¬ (n ≡ 0) → HasPassed (i + 1) e g old new
-    passed_then some =
-        seen_then (slots_of table) key (Probed fits table key name)
-        (λ (p : Probe). ¬ (p.displacement ≡ 0)) i slot here e f g old now new h there probed some
+    pub passed_then : ¬ (n ≡ 0) → HasPassed fits table key name (i + 1) e g old new
+    passed_then some = seen_then h there probed some
 
     -- or ends here.
     pub misses_here : {all : Effort} → n ≡ 0 → VisitedSlots (i + 1) g all
@@ -202,15 +204,15 @@ module _ {T A : Type 0} (fits : T → Key → List ℕ → Type 0) (table : Rule
       earlier = h.seen;
       last = here;
       between = g;
-      probes = more_seen (slots_of table) key (Probed fits table key name)
-          (λ (p : Probe). ¬ (p.displacement ≡ 0)) i slot here e f g old now new h there probed;
+      probes = more_seen h there probed;
       goes_on = h.goes_on;
       ends = inl none;
       visited = subst (λ k. VisitedSlots (k + 1) g all) (sym h.long) visited;
     }
 
   -- It ends after all probes.
-  pub misses_all : {i : ℕ} {e f all : Effort} {old now : SeatOf T} → HasPassed i e f old now
+  pub misses_all : {i : ℕ} {e f all : Effort} {old now : SeatOf T}
+      → HasPassed fits table key name i e f old now
       → 0 < i → i ≡ slots_of table → VisitedSlots i f all
       → Misses fits table key name e all old now
   misses_all {i} {e} {f} {all} {old} {now} h some whole visited = record {
@@ -233,7 +235,7 @@ module _ {T A : Type 0} (fits : T → Key → List ℕ → Type 0) (table : Rule
 
   -- It keeps a reference.
   pub finds_here : {marks : Bool} {i slot word : ℕ} {e f g all : Effort}
-      {old now held new : SeatOf T} → HasPassed i e f old now
+      {old now held new : SeatOf T} → HasPassed fits table key name i e f old now
       → slot ≡ probe_slot (slots_of table) key i
       → Catches fits table key name (Looks table slot) slot 1 word f g now held
       → VisitedSlots (i + 1) g all

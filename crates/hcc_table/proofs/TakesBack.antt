@@ -97,7 +97,7 @@ module _ {T : Type 0} where
           let all : slots - 0 ≡ slots = omega arith in
           ap (λ n. before slot (map (probe_slot slots key) (range_with_len 0 n))) all
 
-  module _ (slots : ℕ) (key : Key) (slot i there : ℕ) (walk : Walk) (seat now : SeatOf T)
+  module _ {slots : ℕ} {key : Key} {slot i there : ℕ} {walk : Walk} {seat now : SeatOf T}
       (s : IsTakingBack slots key slot i walk seat now) (is : there ≡ bit_and walk.probe walk.mask)
       (low : i < slots) where
     probe_is : there ≡ probe_slot slots key i

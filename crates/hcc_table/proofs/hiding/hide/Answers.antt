@@ -30,11 +30,8 @@ returns-then-count_at-eq0-clause-view g c =
     let here = c.hide_at-here.ensures in
     let all = c.with-all.ensures in
     let told = c.count_at.ensures in
-    both c.args.table.now.geometry.slots c.args.key c.args.table.now.limits.power c.loop.counter
-    c.count_at.result c.slot-slot.result c.loop.walk c.loop.all c.hide_at-here.result
-    c.with-all.result
-    c.args.seat.now c.loop.seat c.loop.invariant.0 c.slot-slot.ensures
-    c.hide_at-here.new.seat c.count_at.new.seat here.seat told.seat here.view here.dead here.few
+    both c.loop.invariant.0 c.slot-slot.ensures c.args.table.now.limits.power c.count_at.result
+    c.hide_at-here.result c.with-all.result here.seat told.seat here.view here.dead here.few
     (all.hidden, all.slots, all.charge) told.view told.held told.within
 
 pub returns-then-count_at-eq0-clause-dead : goal.returns-then-count_at-eq0-clause-dead
@@ -42,11 +39,9 @@ returns-then-count_at-eq0-clause-dead g c =
     let here = c.hide_at-here.ensures in
     let all = c.with-all.ensures in
     let told = c.count_at.ensures in
-    hides_last c.args.table.now.geometry.slots c.args.key c.args.table.now.limits.power
-    c.loop.counter c.count_at.result c.slot-slot.result c.loop.walk c.loop.all c.hide_at-here.result
-    c.with-all.result c.args.seat.now c.loop.seat c.loop.invariant.0 c.slot-slot.ensures
-    c.hide_at-here.new.seat c.count_at.new.seat here.seat told.seat here.view here.dead here.few
-    (all.hidden, all.slots, all.charge) told.view told.held told.within
+    hides_last c.loop.invariant.0 c.slot-slot.ensures c.args.table.now.limits.power
+    c.count_at.result c.hide_at-here.result c.with-all.result here.seat told.seat here.view
+    here.dead here.few (all.hidden, all.slots, all.charge) told.view told.held told.within
     c.if-count_at-eq0.true
 
 pub loop-preserved : goal.loop-preserved
@@ -55,31 +50,22 @@ loop-preserved g c =
     let all = c.with-all.ensures in
     let told = c.count_at.ensures in
     let next = c.next-walk.ensures in (
-      hides_on c.args.table.now.geometry.slots c.args.key c.args.table.now.limits.power
-          c.loop.counter c.count_at.result c.slot-slot.result c.loop.walk c.loop.all
-          c.hide_at-here.result c.with-all.result c.args.seat.now c.loop.seat c.loop.invariant.0
-          c.slot-slot.ensures c.hide_at-here.new.seat c.count_at.new.seat here.seat told.seat
-          here.view here.dead here.few (all.hidden, all.slots, all.charge) told.view told.held
-          told.within next.probe next.stride next.mask,
+      hides_on c.loop.invariant.0 c.slot-slot.ensures c.args.table.now.limits.power
+          c.count_at.result c.hide_at-here.result c.with-all.result here.seat told.seat here.view
+          here.dead here.few (all.hidden, all.slots, all.charge) told.view told.held told.within
+          next.probe next.stride next.mask,
       visited,
       (let so_far = c.loop.invariant.2 in let hid = c.hide_at-here.ensures.steps in
           let one = told.step.one in
           let both = sum_of (c.args.table.now.geometry.slots + 4 + g.L.FreedList.loads)
           c.loop.all.slots c.hide_at-here.result.slots all.slots in
           omega arith),
-      hid_then g.T.Tag.fits c.args.table.now c.args.key c.args.name c.loop.counter
-          c.slot-slot.result here.does.0 c.count_at.result
-          (has_room 1 (g.L.FreedList.shelf c.loop.list))
-          (has_room 1 (g.L.FreedList.shelf c.hide_at-here.new.list)) here.does.1 c.loop.all
-          c.hide_at-here.result c.with-all.result c.args.effort.now c.probes.new.self
-          c.loop.effort c.args.seat.now
-          c.loop.seat c.hide_at-here.new.seat c.count_at.new.seat c.loop.invariant.3
-          (room_before 1 (map as_freed here.list.these) (g.L.FreedList.shelf c.loop.list)
-          (g.L.FreedList.shelf c.hide_at-here.new.list) here.list.puts)
-          (c.slot-slot.ensures ∙ c.loop.invariant.0.walking.probe) c.hide_at-here.new.effort
-          (c.probes.ensures.probes, c.probes.ensures.corrections, c.probes.ensures.lost)
-          here.does.2 (all.hidden, all.slots, all.charge) told.step told.event told.view
-          here.view.erases.dead here.does.3 c.if-count_at-eq0.false,
+      hid_then c.with-all.result c.loop.invariant.3 (room_before 1 (map as_freed here.list.these)
+          (g.L.FreedList.shelf c.loop.list) (g.L.FreedList.shelf c.hide_at-here.new.list)
+          here.list.puts) (c.slot-slot.ensures ∙ c.loop.invariant.0.walking.probe)
+          (c.probes.ensures.probes, c.probes.ensures.corrections, c.probes.ensures.lost) here.does.2
+          (all.hidden, all.slots, all.charge) told.step told.event told.view here.view.erases.dead
+          here.does.3 c.if-count_at-eq0.false,
       hands_more c.loop.invariant.4 (hands_alike here.list refl
           (ap (λ (v : View g.row.T.Denot). v.gone) told.view)),
     )
@@ -96,9 +82,8 @@ pub returns-clause-dead : goal.returns-clause-dead
 returns-clause-dead g c =
     let table = c.args.table.now in
     let size = c.geometry-slots.ensures in
-    hides_all table.geometry.slots c.args.key table.limits.power
-    (some_slots table.geometry.slots table.limits.power) (rw (← size) c.loop-test.false)
-    (rw (← size) c.loop.auto.counter-end) c.loop.invariant.0
+    hides_all table.limits.power (some_slots table.geometry.slots table.limits.power)
+    (rw (← size) c.loop-test.false) (rw (← size) c.loop.auto.counter-end) c.loop.invariant.0
 
 pub returns-then-count_at-eq0-clause-effort : goal.returns-then-count_at-eq0-clause-effort
 returns-then-count_at-eq0-clause-effort g c =
@@ -123,17 +108,12 @@ returns-then-count_at-eq0-clause-hides g c =
     let here = c.hide_at-here.ensures in
     let all = c.with-all.ensures in
     let told = c.count_at.ensures in
-    hides_here g.T.Tag.fits c.args.table.now c.args.key c.args.name c.loop.counter
-    c.slot-slot.result here.does.0 c.count_at.result (has_room 1 (g.L.FreedList.shelf c.loop.list))
-    (has_room 1 (g.L.FreedList.shelf c.hide_at-here.new.list)) here.does.1 c.loop.all
-    c.hide_at-here.result c.with-all.result c.args.effort.now c.probes.new.self c.loop.effort
-    c.args.seat.now c.loop.seat c.hide_at-here.new.seat c.count_at.new.seat c.loop.invariant.3
-    (room_before 1 (map as_freed here.list.these) (g.L.FreedList.shelf c.loop.list)
-    (g.L.FreedList.shelf c.hide_at-here.new.list) here.list.puts)
-    (c.slot-slot.ensures ∙ c.loop.invariant.0.walking.probe) c.hide_at-here.new.effort
-    (c.probes.ensures.probes, c.probes.ensures.corrections, c.probes.ensures.lost)
-    here.does.2 (all.hidden, all.slots, all.charge) told.step told.event told.view
-    here.view.erases.dead here.does.3 c.if-count_at-eq0.true
+    hides_here c.with-all.result c.loop.invariant.3 (room_before 1 (map as_freed here.list.these)
+    (g.L.FreedList.shelf c.loop.list) (g.L.FreedList.shelf c.hide_at-here.new.list) here.list.puts)
+    (c.slot-slot.ensures ∙ c.loop.invariant.0.walking.probe)
+    (c.probes.ensures.probes, c.probes.ensures.corrections, c.probes.ensures.lost) here.does.2
+    (all.hidden, all.slots, all.charge) told.step told.event told.view here.view.erases.dead
+    here.does.3 c.if-count_at-eq0.true
 
 pub returns-clause-hides : goal.returns-clause-hides
 returns-clause-hides g c =
@@ -142,8 +122,7 @@ returns-clause-hides g c =
     let past : slots ≤ c.loop.counter = rw (← size) c.loop-test.false in
     let most : c.loop.counter ≤ slots = rw (← size) c.loop.auto.counter-end in
     let some : 0 < slots = some_slots slots c.args.table.now.limits.power in
-    hides_every g.T.Tag.fits c.args.table.now c.args.key c.args.name c.loop.invariant.3
-    (omega arith) (omega arith)
+    hides_every c.loop.invariant.3 (omega arith) (omega arith)
 
 pub returns-then-count_at-eq0-clause-frees : goal.returns-then-count_at-eq0-clause-frees
 returns-then-count_at-eq0-clause-frees g c =

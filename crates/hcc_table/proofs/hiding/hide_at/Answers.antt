@@ -16,18 +16,15 @@ pub returns-in-Some-clause-view : goal.returns-in-Some-clause-view
 returns-in-Some-clause-view g c =
     let found = c.in-Some.ensures.found in
     let all = c.hide_held.result in
-    erased_there g.T.Tag.fits c.args.table.now.geometry.room c.args.slot c.args.name all.hidden
-    all.slots all.charge c.args.key (view c.args.seat.now) (view c.acquire_at.new.seat)
-    (view c.hide_held.new.seat) found.0 c.requires.fresh found.1 c.hide_held.ensures.few.1
-    c.hide_held.ensures.view c.hide_held.ensures.records
+    erased_there all.hidden all.slots all.charge (view c.hide_held.new.seat) c.requires.fresh
+    found.1 c.hide_held.ensures.few.1 c.hide_held.ensures.view c.hide_held.ensures.records
 
 pub returns-in-Some-clause-dead : goal.returns-in-Some-clause-dead
 returns-in-Some-clause-dead g c =
     let found = c.in-Some.ensures.found in
     let all = c.hide_held.result in
-    buried_there g.T.Tag.fits c.args.table.now.geometry.room c.args.slot c.args.name all.hidden
-    all.slots all.charge c.args.key (view c.args.seat.now) (view c.acquire_at.new.seat)
-    (view c.hide_held.new.seat) found.0 c.requires.fresh found.1 c.hide_held.ensures.view
+    buried_there all.hidden all.slots all.charge (view c.hide_held.new.seat) c.requires.fresh
+    found.1 c.hide_held.ensures.view
 
 pub returns-in-Some-clause-does : goal.returns-in-Some-clause-does
 returns-in-Some-clause-does g c =

@@ -34,7 +34,6 @@ pub returns-in-Placed-clause-view : goal.returns-in-Placed-clause-view
 returns-in-Placed-clause-view g c =
     let table = c.args.table.now in
     tries_placed table.geometry.slots c.args.draft c.args.value.now table.limits.power
-    c.loop-slot.passed c.slot-slot.result c.loop-slot.walk c.args.seat.now c.loop-slot.seat
     c.loop-slot.invariant.0 c.slot-slot.ensures c.insert_at.ensures.seat c.in-Placed.ensures.view
     c.requires.trail
 
@@ -42,7 +41,6 @@ pub returns-in-Matched-clause-view : goal.returns-in-Matched-clause-view
 returns-in-Matched-clause-view g c =
     let table = c.args.table.now in
     tries_matched table.geometry.slots c.args.draft c.args.value.now table.limits.power
-    c.loop-slot.passed c.slot-slot.result c.loop-slot.walk c.args.seat.now c.loop-slot.seat
     c.loop-slot.invariant.0 c.slot-slot.ensures c.insert_at.ensures.seat c.take_back.new.seat
     c.in-Matched.ensures.view c.requires.trail c.take_back.ensures.view
 
@@ -54,7 +52,6 @@ returns-then-passed-slots-clause-view g c =
     let least : table.geometry.slots ≡ c.loop-slot.passed + 1 =
     rw (← size) (sym c.if-passed-slots.true) in
     tries_last table.geometry.slots c.args.draft c.args.value.now table.limits.power
-    c.loop-slot.passed c.slot-slot.result c.loop-slot.walk c.args.seat.now c.loop-slot.seat
     c.loop-slot.invariant.0 c.slot-slot.ensures c.insert_at.ensures.seat told.0 told.2
     c.take_back-then-passed-slots.new.seat told.1 (sym least) c.requires.trail
     c.take_back-then-passed-slots.ensures.view
@@ -77,7 +74,6 @@ loop-slot-preserved g c =
     rw (← size) c.if-passed-slots.false in
     let inside = c.loop-slot.invariant.0.inside in (
       tries_next table.geometry.slots c.args.draft c.args.value.now table.limits.power
-          c.loop-slot.passed c.slot-slot.result c.loop-slot.walk c.args.seat.now c.loop-slot.seat
           c.loop-slot.invariant.0 c.slot-slot.ensures c.insert_at.ensures.seat told.0 told.2
           (omega arith) told.1 c.pass_at.ensures.seat c.pass_at.ensures.view next.probe next.stride
           next.mask,
@@ -88,8 +84,8 @@ loop-slot-preserved g c =
           (adds_then c.args.seat.now c.loop-slot.seat c.insert_at.new.seat c.loop-slot.invariant.3
           c.insert_at.ensures.adds)
           (adds_one _ c.insert_at.new.seat c.pass_at.new.seat c.pass_at.ensures.step.1.step),
-      tried_then g.T.Tag.fits table c.args.draft.key c.args.name c.args.draft.countdown
-          c.loop-slot.invariant.4 (c.slot-slot.ensures ∙ c.loop-slot.invariant.0.walking.probe)
+      tried_then c.loop-slot.invariant.4
+          (c.slot-slot.ensures ∙ c.loop-slot.invariant.0.walking.probe)
           (c.probes.ensures.probes, c.probes.ensures.corrections, c.probes.ensures.lost)
           c.in-NoSlot.ensures.tries c.pass_at.ensures.step c.pass_at.ensures.view
           c.pass_at.ensures.event,
@@ -182,18 +178,19 @@ returns-then-passed-slots-clause-steps g c =
 
 pub returns-in-Placed-clause-inserts : goal.returns-in-Placed-clause-inserts
 returns-in-Placed-clause-inserts g c =
-    inserts_here g.T.Tag.fits c.args.table.now c.args.draft.key c.args.name c.args.draft.countdown
-    c.loop-slot.invariant.4 (c.slot-slot.ensures ∙ c.loop-slot.invariant.0.walking.probe)
-    (c.probes.ensures.probes, c.probes.ensures.corrections, c.probes.ensures.lost)
-    c.in-Placed.ensures.tries (λ none. cc) (λ slot same. refl)
-    (adds_none c.insert_at.new.seat c.insert_at.new.seat refl)
-    (goes_none c.args.table.now is_unpass c.insert_at.new.seat c.insert_at.new.seat refl)
-    (omega arith)
+    inserts_here c.loop-slot.invariant.4
+    (c.slot-slot.ensures ∙ c.loop-slot.invariant.0.walking.probe) (
+      c.probes.ensures.probes,
+      c.probes.ensures.corrections,
+      c.probes.ensures.lost,
+    ) c.in-Placed.ensures.tries (λ none. cc) (λ slot same. refl)
+    (adds_none c.insert_at.new.seat c.insert_at.new.seat refl) (goes_none c.args.table.now is_unpass
+    c.insert_at.new.seat c.insert_at.new.seat refl) (omega arith)
 
 pub returns-in-Matched-clause-inserts : goal.returns-in-Matched-clause-inserts
 returns-in-Matched-clause-inserts g c =
-    inserts_here g.T.Tag.fits c.args.table.now c.args.draft.key c.args.name c.args.draft.countdown
-    c.loop-slot.invariant.4 (c.slot-slot.ensures ∙ c.loop-slot.invariant.0.walking.probe)
+    inserts_here c.loop-slot.invariant.4
+    (c.slot-slot.ensures ∙ c.loop-slot.invariant.0.walking.probe)
     (c.probes.ensures.probes, c.probes.ensures.corrections, c.probes.ensures.lost)
     c.in-Matched.ensures.tries (λ none. cc) (λ slot same. cc) c.take_back.ensures.adds
     c.take_back.ensures.past (let back = c.take_back.ensures.steps in
@@ -207,8 +204,8 @@ returns-then-passed-slots-clause-inserts g c =
     let size = c.geometry-slots.ensures in
     let least : c.args.table.now.geometry.slots ≡ c.loop-slot.passed + 1 =
     rw (← size) (sym c.if-passed-slots.true) in
-    inserts_here g.T.Tag.fits c.args.table.now c.args.draft.key c.args.name c.args.draft.countdown
-    c.loop-slot.invariant.4 (c.slot-slot.ensures ∙ c.loop-slot.invariant.0.walking.probe)
+    inserts_here c.loop-slot.invariant.4
+    (c.slot-slot.ensures ∙ c.loop-slot.invariant.0.walking.probe)
     (c.probes.ensures.probes, c.probes.ensures.corrections, c.probes.ensures.lost)
     c.in-NoSlot.ensures.tries (λ none. sym least) (λ slot same. cc)
     c.take_back-then-passed-slots.ensures.adds c.take_back-then-passed-slots.ensures.past

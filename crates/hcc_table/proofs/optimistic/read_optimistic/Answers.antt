@@ -19,8 +19,8 @@ use Rattle.hcc_table.proofs.optimistic.read_optimistic.Goals as goal
 
 pub loop-probe-init : goal.loop-probe-init
 loop-probe-init g c = (
-  begins c.args.table.now.geometry.slots c.args.key c.args.table.now.limits.power c.args.seat.now
-      c.begin-walk.ensures.probe c.begin-walk.ensures.stride
+  begins c.args.table.now.geometry.slots c.args.key c.args.table.now.limits.power
+      c.begin-walk.result c.args.seat.now c.begin-walk.ensures.probe c.begin-walk.ensures.stride
       (rw (← c.geometry-slots.ensures) c.begin-walk.ensures.mask),
   loads_none c.args.table.now c.args.seat.now,
   λ j low. absurd (omega arith),
@@ -62,9 +62,7 @@ returns-in-Some-clause-reads g c =
     let so_far = c.loop-probe.invariant.3 in
     let hints = c.hint_at.ensures.steps in
     let more = reads.1 in
-    let read = shown_there (slot_is table.geometry.slots c.args.key table.limits.power i 0
-    c.slot-slot.result c.loop-probe.walk old now c.loop-probe.invariant.0 c.slot-slot.ensures) low
-    (λ j earlier.
+    let read = shown_there (slot_is c.loop-probe.invariant.0 c.slot-slot.ensures) low (λ j earlier.
     lacks_within table (led_none table old) (c.loop-probe.invariant.2 j earlier) (loads_seek table
     now new
     (loads_then table now hinted new c.hint_at.ensures.by.loads c.read_hinted.ensures.by.loads)))
@@ -136,27 +134,21 @@ returns-then-count_at-eq0-clause-reads g c =
     let told = c.count_at.ensures in
     let other = c.in_default.ensures.other in (
       c.loop-probe.invariant.4,
-      ends table.geometry.slots c.args.key table.limits.power c.loop-probe.probe c.count_at.result
-          c.slot-slot.result c.loop-probe.walk c.args.seat.now c.loop-probe.seat
-          c.loop-probe.invariant.0 c.slot-slot.ensures c.hint_at.new.seat c.count_at.new.seat
+      ends c.loop-probe.invariant.0 c.slot-slot.ensures table.limits.power c.count_at.result
           c.hint_at.ensures.seat told.seat (c.hint_at.ensures.by.sought, other.0) told.view
           told.held told.within c.if-count_at-eq0.true,
       lacked_all table c.args.key c.loop-probe.probe (lacked_more table c.args.key
           c.loop-probe.invariant.2 (reads_led table (record {
             loads = c.loop-probe.invariant.1;
             sought = c.loop-probe.invariant.0.sought;
-          })) (slot_is table.geometry.slots c.args.key table.limits.power c.loop-probe.probe 0
-          c.slot-slot.result c.loop-probe.walk c.args.seat.now c.loop-probe.seat
-          c.loop-probe.invariant.0 c.slot-slot.ensures)
+          })) (slot_is c.loop-probe.invariant.0 c.slot-slot.ensures)
           (loads_seek table c.loop-probe.seat c.hint_at.new.seat c.hint_at.ensures.by.loads) other.1
           (loads_seek table c.hint_at.new.seat c.count_at.new.seat (count_loads table told.event)))
           (led_then table (reads_led table (record {
             loads = c.loop-probe.invariant.1;
             sought = c.loop-probe.invariant.0.sought;
-          })) (reads_led table c.hint_at.ensures.by)) (slot_is table.geometry.slots c.args.key
-          table.limits.power c.loop-probe.probe 0 c.slot-slot.result c.loop-probe.walk
-          c.args.seat.now c.loop-probe.seat c.loop-probe.invariant.0 c.slot-slot.ensures) told.event
-          c.if-count_at-eq0.true,
+          })) (reads_led table c.hint_at.ensures.by))
+          (slot_is c.loop-probe.invariant.0 c.slot-slot.ensures) told.event c.if-count_at-eq0.true,
     )
 
 pub returns-then-count_at-eq0-clause-effort : goal.returns-then-count_at-eq0-clause-effort
@@ -193,9 +185,7 @@ loop-probe-preserved g c =
     let so_far = c.loop-probe.invariant.3 in
     let more = c.hint_at.ensures.steps in
     let last = told.step.one in (
-      goes_on table.geometry.slots c.args.key table.limits.power c.loop-probe.probe
-          c.count_at.result c.slot-slot.result c.loop-probe.walk c.args.seat.now c.loop-probe.seat
-          c.loop-probe.invariant.0 c.slot-slot.ensures c.hint_at.new.seat c.count_at.new.seat
+      goes_on c.loop-probe.invariant.0 c.slot-slot.ensures table.limits.power c.count_at.result
           c.hint_at.ensures.seat told.seat (c.hint_at.ensures.by.sought, other.0) told.view
           told.held told.within c.next-walk.ensures.probe c.next-walk.ensures.stride
           c.next-walk.ensures.mask,
@@ -204,9 +194,7 @@ loop-probe-preserved g c =
           c.count_at.new.seat c.hint_at.ensures.by.loads (count_loads table told.event)),
       lacked_more table c.args.key c.loop-probe.invariant.2 (reads_led table
           (record { loads = c.loop-probe.invariant.1; sought = c.loop-probe.invariant.0.sought }))
-          (slot_is table.geometry.slots c.args.key table.limits.power c.loop-probe.probe 0
-          c.slot-slot.result c.loop-probe.walk c.args.seat.now c.loop-probe.seat
-          c.loop-probe.invariant.0 c.slot-slot.ensures)
+          (slot_is c.loop-probe.invariant.0 c.slot-slot.ensures)
           (loads_seek table c.loop-probe.seat c.hint_at.new.seat c.hint_at.ensures.by.loads) other.1
           (loads_seek table c.hint_at.new.seat c.count_at.new.seat (count_loads table told.event)),
       omega (arith, so_far, more, last),
@@ -223,7 +211,7 @@ returns-clause-reads g c =
     let past : slots ≤ c.loop-probe.probe = rw (← size) c.loop-probe-test.false in
     let most : c.loop-probe.probe ≤ slots = rw (← size) c.loop-probe.auto.probe-end in (
       c.loop-probe.invariant.4,
-      ends_all slots c.args.key table.limits.power some past most c.loop-probe.invariant.0,
+      ends_all table.limits.power some past most c.loop-probe.invariant.0,
       lacked_each table c.args.key (omega arith) c.loop-probe.invariant.2,
     )
 

@@ -35,11 +35,10 @@ pub returns-in-Some-clause-searches : goal.returns-in-Some-clause-searches
 returns-in-Some-clause-searches g c =
     let counted = c.probes.ensures in (
       c.in-Some.found,
-      finds_here g.T.Tag.fits c.args.table.now c.args.key c.args.name (passed_none g.T.Tag.fits
-          c.args.table.now c.args.key c.args.name c.args.effort.now c.args.seat.now)
-          (c.slot-home.ensures ∙ (begins c.args.table.now.geometry.slots c.args.key
-          c.args.table.now.limits.power c.args.seat.now c.begin-walk.ensures.probe
-          c.begin-walk.ensures.stride
+      finds_here (passed_none g.T.Tag.fits c.args.table.now c.args.key c.args.name c.args.effort.now
+          c.args.seat.now) (c.slot-home.ensures ∙ (begins c.args.table.now.geometry.slots c.args.key
+          c.args.table.now.limits.power c.begin-walk.result c.args.seat.now
+          c.begin-walk.ensures.probe c.begin-walk.ensures.stride
           (rw (← c.geometry-slots.ensures) c.begin-walk.ensures.mask)).walking.probe)
           c.in-Some.ensures.catches (counted.probes, counted.corrections, counted.lost)
           c.mark_if.ensures.marked c.mark_if.ensures.unmarked c.mark_if.ensures.unasked
@@ -76,24 +75,20 @@ pub returns-then-count_at-eq0-clause-missed : goal.returns-then-count_at-eq0-cla
 returns-then-count_at-eq0-clause-missed g c =
     let table = c.args.table.now in
     let told = c.count_at.ensures in
-    ends table.geometry.slots c.args.key table.limits.power 0 c.count_at.result c.slot-home.result
-    c.begin-walk.result c.args.seat.now c.args.seat.now (begins c.args.table.now.geometry.slots
-    c.args.key c.args.table.now.limits.power c.args.seat.now c.begin-walk.ensures.probe
-    c.begin-walk.ensures.stride (rw (← c.geometry-slots.ensures) c.begin-walk.ensures.mask))
-    c.slot-home.ensures c.acquire_at.new.seat c.count_at.new.seat c.acquire_at.ensures.seat
-    told.seat c.in_default.ensures.missed told.view told.held told.within c.if-count_at-eq0.true
+    ends (begins c.args.table.now.geometry.slots c.args.key c.args.table.now.limits.power
+    c.begin-walk.result c.args.seat.now c.begin-walk.ensures.probe c.begin-walk.ensures.stride
+    (rw (← c.geometry-slots.ensures) c.begin-walk.ensures.mask)) c.slot-home.ensures
+    table.limits.power c.count_at.result c.acquire_at.ensures.seat told.seat
+    c.in_default.ensures.missed told.view told.held told.within c.if-count_at-eq0.true
 
 pub returns-then-count_at-eq0-clause-searches : goal.returns-then-count_at-eq0-clause-searches
 returns-then-count_at-eq0-clause-searches g c =
     let counted = c.probes-then-count_at-eq0.ensures in
     let told = c.count_at.ensures in
-    misses_here g.T.Tag.fits c.args.table.now c.args.key c.args.name 0 c.slot-home.result
-    c.in_default.ensures.passes.0 c.count_at.result c.args.effort.now c.args.effort.now
-    c.acquire_at.new.effort c.args.seat.now c.args.seat.now c.acquire_at.new.seat
-    c.count_at.new.seat (passed_none g.T.Tag.fits c.args.table.now c.args.key c.args.name
-    c.args.effort.now c.args.seat.now) (c.slot-home.ensures ∙
-    (begins c.args.table.now.geometry.slots c.args.key c.args.table.now.limits.power c.args.seat.now
-    c.begin-walk.ensures.probe c.begin-walk.ensures.stride
+    misses_here (passed_none g.T.Tag.fits c.args.table.now c.args.key c.args.name c.args.effort.now
+    c.args.seat.now) (c.slot-home.ensures ∙
+    (begins c.args.table.now.geometry.slots c.args.key c.args.table.now.limits.power
+    c.begin-walk.result c.args.seat.now c.begin-walk.ensures.probe c.begin-walk.ensures.stride
     (rw (← c.geometry-slots.ensures) c.begin-walk.ensures.mask)).walking.probe)
     c.in_default.ensures.passes.1 told.step told.event told.view c.if-count_at-eq0.true
     (counted.probes, counted.corrections, counted.lost)
@@ -122,36 +117,27 @@ loop-probe-init g c =
     let table = c.args.table.now in
     let told = c.count_at.ensures in
     let start = (begins c.args.table.now.geometry.slots c.args.key c.args.table.now.limits.power
-    c.args.seat.now c.begin-walk.ensures.probe c.begin-walk.ensures.stride
+    c.begin-walk.result c.args.seat.now c.begin-walk.ensures.probe c.begin-walk.ensures.stride
     (rw (← c.geometry-slots.ensures) c.begin-walk.ensures.mask)) in (
-      goes_on table.geometry.slots c.args.key table.limits.power 0 c.count_at.result
-          c.slot-home.result c.begin-walk.result c.args.seat.now c.args.seat.now start
-          c.slot-home.ensures c.acquire_at.new.seat c.count_at.new.seat c.acquire_at.ensures.seat
-          told.seat c.in_default.ensures.missed told.view told.held told.within c.beyond.ensures
-          refl refl,
+      goes_on start c.slot-home.ensures table.limits.power c.count_at.result
+          c.acquire_at.ensures.seat told.seat c.in_default.ensures.missed told.view told.held
+          told.within c.beyond.ensures refl refl,
       c.acquire_at.ensures.effort,
       (let held = c.acquire_at.ensures.steps in let one = told.step.one in omega arith),
       unmarked_then c.args.seat.now c.acquire_at.new.seat c.count_at.new.seat
           c.acquire_at.ensures.adds (unmarked_zero told.step),
-      passed_then g.T.Tag.fits table c.args.key c.args.name 0 c.slot-home.result
-          c.in_default.ensures.passes.0 c.count_at.result c.args.effort.now c.args.effort.now
-          c.acquire_at.new.effort c.args.seat.now c.args.seat.now c.acquire_at.new.seat
-          c.count_at.new.seat
-          (passed_none g.T.Tag.fits table c.args.key c.args.name c.args.effort.now
-          c.args.seat.now)
-          (c.slot-home.ensures ∙ start.walking.probe)
-          c.in_default.ensures.passes.1 told.step told.event told.view c.if-count_at-eq0.false,
+      passed_then
+          (passed_none g.T.Tag.fits table c.args.key c.args.name c.args.effort.now c.args.seat.now)
+          (c.slot-home.ensures ∙ start.walking.probe) c.in_default.ensures.passes.1 told.step
+          told.event told.view c.if-count_at-eq0.false,
     )
 
 pub returns-then-count_at-eq0-2-clause-missed : goal.returns-then-count_at-eq0-2-clause-missed
 returns-then-count_at-eq0-2-clause-missed g c =
     let table = c.args.table.now in
     let told = c.count_at-in-loop-probe.ensures in
-    ends table.geometry.slots c.args.key table.limits.power c.loop-probe.probe
-    c.count_at-in-loop-probe.result
-    c.slot-slot.result c.loop-probe.walk c.args.seat.now c.loop-probe.seat c.loop-probe.invariant.0
-    c.slot-slot.ensures c.acquire_at-in-loop-probe.new.seat c.count_at-in-loop-probe.new.seat
-    c.acquire_at-in-loop-probe.ensures.seat told.seat
+    ends c.loop-probe.invariant.0 c.slot-slot.ensures table.limits.power
+    c.count_at-in-loop-probe.result c.acquire_at-in-loop-probe.ensures.seat told.seat
     (c.in_default-acquire_at.ensures.missed) told.view told.held told.within
     c.if-count_at-eq0-2.true
 
@@ -160,12 +146,10 @@ loop-probe-preserved g c =
     let table = c.args.table.now in
     let told = c.count_at-in-loop-probe.ensures in
     let next = c.next-walk.ensures in (
-      goes_on table.geometry.slots c.args.key table.limits.power c.loop-probe.probe
-          c.count_at-in-loop-probe.result c.slot-slot.result c.loop-probe.walk c.args.seat.now
-          c.loop-probe.seat c.loop-probe.invariant.0 c.slot-slot.ensures
-          c.acquire_at-in-loop-probe.new.seat c.count_at-in-loop-probe.new.seat
-          c.acquire_at-in-loop-probe.ensures.seat told.seat c.in_default-acquire_at.ensures.missed
-          told.view told.held told.within next.probe next.stride next.mask,
+      goes_on c.loop-probe.invariant.0 c.slot-slot.ensures table.limits.power
+          c.count_at-in-loop-probe.result c.acquire_at-in-loop-probe.ensures.seat told.seat
+          c.in_default-acquire_at.ensures.missed told.view told.held told.within next.probe
+          next.stride next.mask,
       visited,
       (let so_far = c.loop-probe.invariant.2 in let held = c.acquire_at-in-loop-probe.ensures.steps
           in
@@ -174,13 +158,8 @@ loop-probe-preserved g c =
           c.count_at-in-loop-probe.new.seat (unmarked_then c.args.seat.now c.loop-probe.seat
           c.acquire_at-in-loop-probe.new.seat c.loop-probe.invariant.3
           c.acquire_at-in-loop-probe.ensures.adds) (unmarked_zero told.step),
-      passed_then g.T.Tag.fits table c.args.key c.args.name c.loop-probe.probe c.slot-slot.result
-          c.in_default-acquire_at.ensures.passes.0 c.count_at-in-loop-probe.result c.args.effort.now
-          c.loop-probe.effort
-          c.acquire_at-in-loop-probe.new.effort c.args.seat.now c.loop-probe.seat
-          c.acquire_at-in-loop-probe.new.seat
-          c.count_at-in-loop-probe.new.seat
-          c.loop-probe.invariant.4 (c.slot-slot.ensures ∙ c.loop-probe.invariant.0.walking.probe)
+      passed_then c.loop-probe.invariant.4
+          (c.slot-slot.ensures ∙ c.loop-probe.invariant.0.walking.probe)
           c.in_default-acquire_at.ensures.passes.1 told.step told.event told.view
           c.if-count_at-eq0-2.false,
     )
@@ -195,10 +174,10 @@ pub returns-clause-missed : goal.returns-clause-missed
 returns-clause-missed g c =
     let table = c.args.table.now in
     let size = c.geometry-slots.ensures in
-    ends_all table.geometry.slots c.args.key table.limits.power
-    (some_slots table.geometry.slots table.limits.power) (rw (← size) c.loop-probe-test.false)
-    (rw (← size) (c.loop-probe.auto.probe-end (rw size (some_slots c.args.table.now.geometry.slots
-    c.args.table.now.limits.power)))) c.loop-probe.invariant.0
+    ends_all table.limits.power (some_slots table.geometry.slots table.limits.power)
+    (rw (← size) c.loop-probe-test.false) (rw (← size) (c.loop-probe.auto.probe-end
+    (rw size (some_slots c.args.table.now.geometry.slots c.args.table.now.limits.power))))
+    c.loop-probe.invariant.0
 
 pub mark_if-requires-in-Some-acquire_at-clause-holds :
     goal.mark_if-requires-in-Some-acquire_at-clause-holds
@@ -376,7 +355,7 @@ pub returns-in-Some-acquire_at-clause-searches : goal.returns-in-Some-acquire_at
 returns-in-Some-acquire_at-clause-searches g c =
     let counted = c.probes-in-Some-acquire_at.ensures in (
       c.in-Some-acquire_at.found,
-      finds_here g.T.Tag.fits c.args.table.now c.args.key c.args.name c.loop-probe.invariant.4
+      finds_here c.loop-probe.invariant.4
           (c.slot-slot.ensures ∙ c.loop-probe.invariant.0.walking.probe)
           c.in-Some-acquire_at.ensures.catches (counted.probes, counted.corrections, counted.lost)
           c.mark_if-in-Some-acquire_at.ensures.marked c.mark_if-in-Some-acquire_at.ensures.unmarked
@@ -389,11 +368,8 @@ pub returns-then-count_at-eq0-2-clause-searches : goal.returns-then-count_at-eq0
 returns-then-count_at-eq0-2-clause-searches g c =
     let counted = c.probes-then-count_at-eq0-2.ensures in
     let told = c.count_at-in-loop-probe.ensures in
-    misses_here g.T.Tag.fits c.args.table.now c.args.key c.args.name c.loop-probe.probe
-    c.slot-slot.result c.in_default-acquire_at.ensures.passes.0 c.count_at-in-loop-probe.result
-    c.args.effort.now c.loop-probe.effort c.acquire_at-in-loop-probe.new.effort c.args.seat.now
-    c.loop-probe.seat c.acquire_at-in-loop-probe.new.seat c.count_at-in-loop-probe.new.seat
-    c.loop-probe.invariant.4 (c.slot-slot.ensures ∙ c.loop-probe.invariant.0.walking.probe)
+    misses_here c.loop-probe.invariant.4
+    (c.slot-slot.ensures ∙ c.loop-probe.invariant.0.walking.probe)
     c.in_default-acquire_at.ensures.passes.1 told.step told.event told.view c.if-count_at-eq0-2.true
     (counted.probes, counted.corrections, counted.lost)
 
@@ -409,6 +385,5 @@ returns-clause-searches g c =
     let all : c.loop-probe.probe ≡ slots = omega arith in
     let visited : VisitedSlots slots c.loop-probe.effort c.probes-2.new.self =
     (rw (← size) counted.probes, counted.corrections, counted.lost) in
-    misses_all g.T.Tag.fits c.args.table.now c.args.key c.args.name c.loop-probe.invariant.4
-    (omega arith) all
+    misses_all c.loop-probe.invariant.4 (omega arith) all
     (subst (λ n. VisitedSlots n c.loop-probe.effort c.probes-2.new.self) (sym all) visited)
