@@ -18,9 +18,8 @@ returns-then-has_entry-clause-view g c =
 
 pub returns-then-has_entry-clause-acquires : goal.returns-then-has_entry-clause-acquires
 returns-then-has_entry-clause-acquires g c = record {
-  first = begins_then got c.args.seat.now c.acquire_at-found.new.seat c.relieve.new.seat
-      added.step (unmarked_adds c.acquire_at-found.new.seat c.relieve.new.seat
-      c.relieve.ensures.adds);
+  first = begins_then got c.args.seat.now c.acquire_at-found.new.seat c.relieve.new.seat added.step
+      (unmarked_adds c.relieve.ensures.adds);
   once = λ fresh.
       let none = c.relieve.ensures.passes (λ worn. fresh (
         sym c.if-has_entry.ensures,
@@ -64,9 +63,8 @@ returns-then-has_entry-clause-corrects g c = record {
 
 pub returns-then-has_entry-clause-adds : goal.returns-then-has_entry-clause-adds
 returns-then-has_entry-clause-adds g c =
-    unmarked_then c.args.seat.now c.acquire_at-found.new.seat c.relieve.new.seat (unmarked_one _
-    c.args.seat.now c.acquire_at-found.new.seat c.acquire_at-found.ensures.step.step
-    (light c.requires.weight.1)) c.relieve.ensures.adds
+    unmarked_then (unmarked_one _ c.acquire_at-found.ensures.step.step (light c.requires.weight.1))
+    c.relieve.ensures.adds
 
 pub returns-else-not-is_counting-clause-view : goal.returns-else-not-is_counting-clause-view
 returns-else-not-is_counting-clause-view g c =

@@ -71,10 +71,10 @@ pub returns-then-matches-clause-matched : goal.returns-then-matches-clause-match
 returns-then-matches-clause-matched g c _ = (
   c.reach-found.result,
   c.let_go.ensures.left.found,
-  among_then got c.args.seat.now c.matches.new.seat c.let_go.new.seat
-      (among_then got c.args.seat.now c.reach-found.new.seat c.matches.new.seat
+  among_then got c.args.seat.now c.matches.new.seat c.let_go.new.seat (among_then got
+      c.args.seat.now c.reach-found.new.seat c.matches.new.seat
       (among_first got c.args.seat.now c.reach-found.new.seat c.reach-found.ensures.acquires.first)
-      (unmarked_adds c.reach-found.new.seat c.matches.new.seat c.matches.ensures.adds))
+      (unmarked_adds c.matches.ensures.adds))
       (adds_one _ c.matches.new.seat c.let_go.new.seat c.let_go.ensures.left.step.step),
   rw (← c.is_counting.ensures) (among_at _ c.args.seat.now c.matches.new.seat c.let_go.new.seat
       c.let_go.new.seat before c.let_go.ensures.left.step.step
@@ -88,10 +88,9 @@ returns-then-matches-clause-matched g c _ = (
 
     before : Adds c.args.seat.now c.matches.new.seat
     before =
-        adds_then c.args.seat.now c.reach-found.new.seat c.matches.new.seat
-        (begins_adds got c.args.seat.now c.reach-found.new.seat
-        c.reach-found.ensures.acquires.first)
-        (unmarked_adds c.reach-found.new.seat c.matches.new.seat c.matches.ensures.adds)
+        adds_then c.args.seat.now c.reach-found.new.seat c.matches.new.seat (begins_adds got
+        c.args.seat.now c.reach-found.new.seat c.reach-found.ensures.acquires.first)
+        (unmarked_adds c.matches.ensures.adds)
 
 pub returns-then-matches-clause-uses : goal.returns-then-matches-clause-uses
 returns-then-matches-clause-uses g c _ = (
@@ -128,7 +127,7 @@ returns-then-not-has_entry-clause-passes g c _ = (
       corrects = c.reach-found.ensures.corrects;
       by = c.reach-found.ensures.by;
     };
-    adds = unmarked_none c.reach-found.new.seat c.reach-found.new.seat refl;
+    adds = unmarked_none refl;
     seeks = seeks_none c.args.table.now c.reach-found.new.seat;
     kept = returns-then-not-has_entry-clause-view g c;
     other = λ shown. neither (is_shareable c.reach-found.result)
@@ -149,8 +148,7 @@ returns-clause-passes g c _ = (
       corrects = c.reach-found.ensures.corrects;
       by = c.reach-found.ensures.by;
     };
-    adds = unmarked_then c.reach-found.new.seat c.matches.new.seat c.give_at.new.seat
-        c.matches.ensures.adds given;
+    adds = unmarked_then c.matches.ensures.adds given;
     seeks = seeks_then c.args.table.now c.reach-found.new.seat c.matches.new.seat c.give_at.new.seat
         c.matches.ensures.seeks (seeks_one c.args.table.now _ c.matches.new.seat c.give_at.new.seat
         c.give_at.ensures.event refl);
@@ -160,21 +158,19 @@ returns-clause-passes g c _ = (
         (c.matches.ensures.other c.if-matches.false shown);
     loads = λ shown. other_then c.args.table.now c.args.at.slot c.reach-found.new.seat
         c.matches.new.seat c.give_at.new.seat (c.matches.ensures.differs c.if-matches.false shown)
-        (unmarked_adds c.matches.new.seat c.give_at.new.seat given);
+        (unmarked_adds given);
   },
 )
   where
     given : AddsUnmarked c.matches.new.seat c.give_at.new.seat
-    given =
-        unmarked_one _ c.matches.new.seat c.give_at.new.seat c.give_at.ensures.step.step
-        (light c.requires.weight.1)
+    given = unmarked_one _ c.give_at.ensures.step.step (light c.requires.weight.1)
 
 pub returns-then-matches-clause-adds : goal.returns-then-matches-clause-adds
 returns-then-matches-clause-adds g c =
     adds_then c.args.seat.now c.reach-found.new.seat c.let_go.new.seat
     (begins_adds _ c.args.seat.now c.reach-found.new.seat c.reach-found.ensures.acquires.first)
     (adds_then c.reach-found.new.seat c.matches.new.seat c.let_go.new.seat
-    (unmarked_adds c.reach-found.new.seat c.matches.new.seat c.matches.ensures.adds)
+    (unmarked_adds c.matches.ensures.adds)
     (adds_one _ c.matches.new.seat c.let_go.new.seat c.let_go.ensures.left.step.step))
 
 pub returns-then-not-has_entry-clause-adds : goal.returns-then-not-has_entry-clause-adds
@@ -186,5 +182,5 @@ returns-clause-adds g c =
     adds_then c.args.seat.now c.reach-found.new.seat c.give_at.new.seat
     (begins_adds _ c.args.seat.now c.reach-found.new.seat c.reach-found.ensures.acquires.first)
     (adds_then c.reach-found.new.seat c.matches.new.seat c.give_at.new.seat
-    (unmarked_adds c.reach-found.new.seat c.matches.new.seat c.matches.ensures.adds)
+    (unmarked_adds c.matches.ensures.adds)
     (adds_one _ c.matches.new.seat c.give_at.new.seat c.give_at.ensures.step.step))

@@ -62,9 +62,8 @@ returns-then-not-is_shown-clause-holds g c = record {
 
 pub returns-then-not-is_shown-clause-adds : goal.returns-then-not-is_shown-clause-adds
 returns-then-not-is_shown-clause-adds g c =
-    unmarked_then c.args.seat.now c.reach-found.new.seat c.give_at.new.seat
-    c.reach-found.ensures.adds (unmarked_one _ c.reach-found.new.seat c.give_at.new.seat
-    c.give_at.ensures.step.step (light (omega arith)))
+    unmarked_then c.reach-found.ensures.adds
+    (unmarked_one _ c.give_at.ensures.step.step (light (omega arith)))
 
 pub returns-clause-found : goal.returns-clause-found
 returns-clause-found g c = (

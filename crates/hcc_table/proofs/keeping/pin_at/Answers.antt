@@ -94,8 +94,8 @@ returns-in-None-free_hidden-clause-view g c =
 
 pub returns-in-None-free_hidden-clause-unmarked : goal.returns-in-None-free_hidden-clause-unmarked
 returns-in-None-free_hidden-clause-unmarked g c =
-    unmarked_then c.args.seat.now c.look_at-seen.new.seat c.free_hidden.new.seat
-    (unmarked_zero c.look_at-seen.ensures.step) (frees_unmarked c.in-None-free_hidden.ensures.tries)
+    unmarked_then (unmarked_zero c.look_at-seen.ensures.step)
+    (frees_unmarked c.in-None-free_hidden.ensures.tries)
 
 pub returns-in-None-free_hidden-clause-seeks : goal.returns-in-None-free_hidden-clause-seeks
 returns-in-None-free_hidden-clause-seeks g c =

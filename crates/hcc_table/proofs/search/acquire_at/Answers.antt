@@ -70,34 +70,28 @@ returns-then-matches-clause-acquired g c =
     let one = atomic (address_of_meta c.args.table.now c.args.at.slot) 1 0 c.reach-found.result in
     among_after one c.args.seat.now c.look_at-seen.new.seat c.matches.new.seat
     (adds_one _ c.args.seat.now c.look_at-seen.new.seat c.look_at-seen.ensures.step.step)
-    (among_then one c.look_at-seen.new.seat c.reach-found.new.seat c.matches.new.seat
-    (among_first one c.look_at-seen.new.seat c.reach-found.new.seat
-    c.reach-found.ensures.acquires.first)
-    (unmarked_adds c.reach-found.new.seat c.matches.new.seat c.matches.ensures.adds))
+    (among_then one c.look_at-seen.new.seat c.reach-found.new.seat c.matches.new.seat (among_first
+    one c.look_at-seen.new.seat c.reach-found.new.seat c.reach-found.ensures.acquires.first)
+    (unmarked_adds c.matches.ensures.adds))
 
 pub returns-then-not-is_shown-clause-adds : goal.returns-then-not-is_shown-clause-adds
 returns-then-not-is_shown-clause-adds g c = unmarked_zero c.look_at-seen.ensures.step
 
 pub returns-then-not-has_entry-clause-adds : goal.returns-then-not-has_entry-clause-adds
 returns-then-not-has_entry-clause-adds g c =
-    unmarked_then c.args.seat.now c.look_at-seen.new.seat c.matches.new.seat
-    (unmarked_zero c.look_at-seen.ensures.step) (unmarked_then c.look_at-seen.new.seat
-    c.reach-found.new.seat c.matches.new.seat c.reach-found.ensures.adds c.matches.ensures.adds)
+    unmarked_then (unmarked_zero c.look_at-seen.ensures.step)
+    (unmarked_then c.reach-found.ensures.adds c.matches.ensures.adds)
 
 pub returns-then-matches-clause-adds : goal.returns-then-matches-clause-adds
 returns-then-matches-clause-adds g c =
-    unmarked_then c.args.seat.now c.look_at-seen.new.seat c.matches.new.seat
-    (unmarked_zero c.look_at-seen.ensures.step) (unmarked_then c.look_at-seen.new.seat
-    c.reach-found.new.seat c.matches.new.seat c.reach-found.ensures.adds c.matches.ensures.adds)
+    unmarked_then (unmarked_zero c.look_at-seen.ensures.step)
+    (unmarked_then c.reach-found.ensures.adds c.matches.ensures.adds)
 
 pub returns-clause-adds : goal.returns-clause-adds
 returns-clause-adds g c =
-    unmarked_then c.args.seat.now c.look_at-seen.new.seat c.give_at.new.seat
-    (unmarked_zero c.look_at-seen.ensures.step) (unmarked_then c.look_at-seen.new.seat
-    c.reach-found.new.seat c.give_at.new.seat c.reach-found.ensures.adds (unmarked_then
-    c.reach-found.new.seat c.matches.new.seat c.give_at.new.seat c.matches.ensures.adds
-    (unmarked_one _ c.matches.new.seat c.give_at.new.seat c.give_at.ensures.step.step
-    (light (omega arith)))))
+    unmarked_then (unmarked_zero c.look_at-seen.ensures.step)
+    (unmarked_then c.reach-found.ensures.adds (unmarked_then c.matches.ensures.adds
+    (unmarked_one _ c.give_at.ensures.step.step (light (omega arith)))))
 
 pub returns-then-not-is_shown-clause-passes : goal.returns-then-not-is_shown-clause-passes
 returns-then-not-is_shown-clause-passes g c = (
@@ -178,8 +172,7 @@ returns-clause-passes g c = (
         corrects = c.reach-found.ensures.corrects;
         by = c.reach-found.ensures.by;
       };
-      adds = unmarked_then c.reach-found.new.seat c.matches.new.seat c.give_at.new.seat
-          c.matches.ensures.adds given;
+      adds = unmarked_then c.matches.ensures.adds given;
       seeks = seeks_then c.args.table.now c.reach-found.new.seat c.matches.new.seat
           c.give_at.new.seat
           c.matches.ensures.seeks (seeks_one c.args.table.now _ c.matches.new.seat
@@ -193,7 +186,7 @@ returns-clause-passes g c = (
           (c.matches.ensures.other c.if-matches.false shown);
       loads = λ shown. other_then c.args.table.now c.args.at.slot c.reach-found.new.seat
           c.matches.new.seat c.give_at.new.seat (c.matches.ensures.differs c.if-matches.false shown)
-          (unmarked_adds c.matches.new.seat c.give_at.new.seat given);
+          (unmarked_adds given);
     };
   },
 )
@@ -204,9 +197,7 @@ returns-clause-passes g c = (
         (view c.look_at-seen.new.seat) c.look_at-seen.ensures.view
 
     given : AddsUnmarked c.matches.new.seat c.give_at.new.seat
-    given =
-        unmarked_one _ c.matches.new.seat c.give_at.new.seat c.give_at.ensures.step.step
-        (light (omega arith))
+    given = unmarked_one _ c.give_at.ensures.step.step (light (omega arith))
 
 pub returns-then-matches-clause-catches : goal.returns-then-matches-clause-catches
 returns-then-matches-clause-catches g c = record {

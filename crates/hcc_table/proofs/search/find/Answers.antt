@@ -95,8 +95,7 @@ returns-then-count_at-eq0-clause-searches g c =
 
 pub returns-then-count_at-eq0-clause-unmarked : goal.returns-then-count_at-eq0-clause-unmarked
 returns-then-count_at-eq0-clause-unmarked g c _ =
-    unmarked_then c.args.seat.now c.acquire_at.new.seat c.count_at.new.seat
-    c.acquire_at.ensures.adds (unmarked_zero c.count_at.ensures.step)
+    unmarked_then c.acquire_at.ensures.adds (unmarked_zero c.count_at.ensures.step)
 
 pub returns-then-count_at-eq0-clause-steps : goal.returns-then-count_at-eq0-clause-steps
 returns-then-count_at-eq0-clause-steps g c =
@@ -124,8 +123,7 @@ loop-probe-init g c =
           told.within c.beyond.ensures refl refl,
       c.acquire_at.ensures.effort,
       (let held = c.acquire_at.ensures.steps in let one = told.step.one in omega arith),
-      unmarked_then c.args.seat.now c.acquire_at.new.seat c.count_at.new.seat
-          c.acquire_at.ensures.adds (unmarked_zero told.step),
+      unmarked_then c.acquire_at.ensures.adds (unmarked_zero told.step),
       passed_then
           (passed_none g.T.Tag.fits table c.args.key c.args.name c.args.effort.now c.args.seat.now)
           (c.slot-home.ensures ∙ start.walking.probe) c.in_default.ensures.passes.1 told.step
@@ -154,10 +152,8 @@ loop-probe-preserved g c =
       (let so_far = c.loop-probe.invariant.2 in let held = c.acquire_at-in-loop-probe.ensures.steps
           in
           let one = told.step.one in omega arith),
-      unmarked_then c.args.seat.now c.acquire_at-in-loop-probe.new.seat
-          c.count_at-in-loop-probe.new.seat (unmarked_then c.args.seat.now c.loop-probe.seat
-          c.acquire_at-in-loop-probe.new.seat c.loop-probe.invariant.3
-          c.acquire_at-in-loop-probe.ensures.adds) (unmarked_zero told.step),
+      unmarked_then (unmarked_then c.loop-probe.invariant.3 c.acquire_at-in-loop-probe.ensures.adds)
+          (unmarked_zero told.step),
       passed_then c.loop-probe.invariant.4
           (c.slot-slot.ensures ∙ c.loop-probe.invariant.0.walking.probe)
           c.in_default-acquire_at.ensures.passes.1 told.step told.event told.view
@@ -292,12 +288,10 @@ returns-in-Some-acquire_at-clause-marked g c asked = (
         c.mark_if-in-Some-acquire_at.new.seat before set.1.step,
   ),
   λ hit. among_then got c.args.seat.now c.acquire_at-in-loop-probe.new.seat
-      c.mark_if-in-Some-acquire_at.new.seat
-      (among_after got c.args.seat.now c.loop-probe.seat c.acquire_at-in-loop-probe.new.seat
-      (unmarked_adds c.args.seat.now c.loop-probe.seat c.loop-probe.invariant.3)
-      c.in-Some-acquire_at.ensures.acquired)
-      (adds_none c.acquire_at-in-loop-probe.new.seat c.mark_if-in-Some-acquire_at.new.seat
-      (c.mark_if-in-Some-acquire_at.ensures.unmarked hit)),
+      c.mark_if-in-Some-acquire_at.new.seat (among_after got c.args.seat.now c.loop-probe.seat
+      c.acquire_at-in-loop-probe.new.seat (unmarked_adds c.loop-probe.invariant.3)
+      c.in-Some-acquire_at.ensures.acquired) (adds_none c.acquire_at-in-loop-probe.new.seat
+      c.mark_if-in-Some-acquire_at.new.seat (c.mark_if-in-Some-acquire_at.ensures.unmarked hit)),
 )
   where
     got : Atomic
@@ -307,10 +301,8 @@ returns-in-Some-acquire_at-clause-marked g c asked = (
 
     before : Adds c.args.seat.now c.acquire_at-in-loop-probe.new.seat
     before =
-        unmarked_adds c.args.seat.now c.acquire_at-in-loop-probe.new.seat
-        (unmarked_then c.args.seat.now c.loop-probe.seat c.acquire_at-in-loop-probe.new.seat
-        c.loop-probe.invariant.3
-        c.acquire_at-in-loop-probe.ensures.adds)
+        unmarked_adds
+        (unmarked_then c.loop-probe.invariant.3 c.acquire_at-in-loop-probe.ensures.adds)
 
 pub returns-in-Some-acquire_at-clause-acquired : goal.returns-in-Some-acquire_at-clause-acquired
 returns-in-Some-acquire_at-clause-acquired g c = (
@@ -319,8 +311,7 @@ returns-in-Some-acquire_at-clause-acquired g c = (
   c.is_counting-in-Some-acquire_at.ensures,
   among_then got c.args.seat.now c.acquire_at-in-loop-probe.new.seat
       c.mark_if-in-Some-acquire_at.new.seat (among_after got c.args.seat.now c.loop-probe.seat
-      c.acquire_at-in-loop-probe.new.seat
-      (unmarked_adds c.args.seat.now c.loop-probe.seat c.loop-probe.invariant.3)
+      c.acquire_at-in-loop-probe.new.seat (unmarked_adds c.loop-probe.invariant.3)
       c.in-Some-acquire_at.ensures.acquired) (marks_add c.args.marks
       (hit_of c.in-Some-acquire_at.found) c.mark_if-in-Some-acquire_at.ensures.marked
       c.mark_if-in-Some-acquire_at.ensures.unmarked c.mark_if-in-Some-acquire_at.ensures.unasked),
@@ -333,20 +324,13 @@ returns-in-Some-acquire_at-clause-acquired g c = (
 
 pub returns-in-Some-acquire_at-clause-unmarked : goal.returns-in-Some-acquire_at-clause-unmarked
 returns-in-Some-acquire_at-clause-unmarked g c unasked =
-    unmarked_then c.args.seat.now c.acquire_at-in-loop-probe.new.seat
-    c.mark_if-in-Some-acquire_at.new.seat
-    (unmarked_then c.args.seat.now c.loop-probe.seat c.acquire_at-in-loop-probe.new.seat
-    c.loop-probe.invariant.3
-    c.acquire_at-in-loop-probe.ensures.adds)
-    (unmarked_none c.acquire_at-in-loop-probe.new.seat c.mark_if-in-Some-acquire_at.new.seat
-    (c.mark_if-in-Some-acquire_at.ensures.unasked unasked))
+    unmarked_then (unmarked_then c.loop-probe.invariant.3 c.acquire_at-in-loop-probe.ensures.adds)
+    (unmarked_none (c.mark_if-in-Some-acquire_at.ensures.unasked unasked))
 
 pub returns-then-count_at-eq0-2-clause-unmarked : goal.returns-then-count_at-eq0-2-clause-unmarked
 returns-then-count_at-eq0-2-clause-unmarked g c _ =
-    unmarked_then c.args.seat.now c.acquire_at-in-loop-probe.new.seat
-    c.count_at-in-loop-probe.new.seat (unmarked_then c.args.seat.now c.loop-probe.seat
-    c.acquire_at-in-loop-probe.new.seat c.loop-probe.invariant.3
-    c.acquire_at-in-loop-probe.ensures.adds) (unmarked_zero c.count_at-in-loop-probe.ensures.step)
+    unmarked_then (unmarked_then c.loop-probe.invariant.3 c.acquire_at-in-loop-probe.ensures.adds)
+    (unmarked_zero c.count_at-in-loop-probe.ensures.step)
 
 pub returns-clause-unmarked : goal.returns-clause-unmarked
 returns-clause-unmarked g c _ = c.loop-probe.invariant.3

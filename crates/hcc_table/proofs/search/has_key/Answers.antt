@@ -31,8 +31,8 @@ returns-then-read_at-key-clause-differs g c other =
 
 pub returns-then-read_at-key-clause-adds : goal.returns-then-read_at-key-clause-adds
 returns-then-read_at-key-clause-adds g c =
-    unmarked_then c.args.seat.now c.read_at.new.seat c.read_at-then-read_at-key.new.seat
-    (unmarked_zero c.read_at.ensures.step) (unmarked_zero c.read_at-then-read_at-key.ensures.step)
+    unmarked_then (unmarked_zero c.read_at.ensures.step)
+    (unmarked_zero c.read_at-then-read_at-key.ensures.step)
 
 pub returns-else-read_at-key-clause-differs : goal.returns-else-read_at-key-clause-differs
 returns-else-read_at-key-clause-differs g c _ =
