@@ -157,7 +157,7 @@ module _ {T : Type 0} where
           (view probed).records)
           (within : Each (λ (r : Record). r.slot < slots) (view probed).records) where
         sought : Sought (view seat) (view counted)
-        sought = rw kept (sought_then (view seat) (view now) (view probed) s.sought missed.0)
+        sought = rw kept (sought_then _ _ _ s.sought missed.0)
 
         records_are : (view probed).records ≡ (view seat).records
         records_are = missed.0.records ∙ s.sought.records

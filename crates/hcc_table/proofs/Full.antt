@@ -184,7 +184,7 @@ module _ {T A : Type 0} (fits : T → Key → List ℕ → Type 0) (table : Rule
         found : SameTaken (world_at table a) (world_at table h.mid) × Taken h.mid slot
         found =
             occupy_takes (view a).client slot h.seen (lawful_at a) (clients_at a)
-            (event_alone table one (occupy_done slot h.seen (view a)) a h.mid h.first.3) h.first.2
+            (event_alone table one _ a h.mid h.first.3) h.first.2
 
         by : (shown : Bool) → is_visible h.seen ≡ shown
             → SameTaken (world_at table a) (world_at table b) × Taken b slot
@@ -211,7 +211,7 @@ module _ {T A : Type 0} (fits : T → Key → List ℕ → Type 0) (table : Rule
         let first = passed_takes at.passes in
         let rest = probes_take (i + 1) ps h.0 f h.1 b h.3 in
         let on = still_alone leaves_taken one at.mid h.1
-        (goes_event table is_still (pass_done slot (view at.mid)) at.mid h.1 at.event refl) in (
+        (goes_event table is_still _ at.mid h.1 at.event refl) in (
           λ s. rest.0 s ∙ on s ∙ first.0 s,
           λ k low high. elim (cases_lt i k) [
             | inl later ↦ rest.1 k (omega arith) (omega arith)

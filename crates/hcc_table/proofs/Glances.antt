@@ -51,7 +51,7 @@ module _ {T A : Type 0} (table : RuleTable T A) (slot : ℕ) where
   found_shown : {stamp : Stamp} (a b : SeatOf T)
       → IsEvent table (peek_done slot (Some stamp) (view a)) a b → ShowsStamp stamp b
   found_shown {stamp} a b event =
-      let led = event_leads table (peek_done slot (Some stamp) (view a)) a b event in
+      let led = event_leads table _ a b event in
       peek_shows led.0 (world_at table b) (view a).client slot stamp led.1
 
   -- what the first glance tells where the word is visible
@@ -185,7 +185,7 @@ module _ {T A : Type 0} (table : RuleTable T A) where
   pub reads_then : {a b c : SeatOf T} → Reads table a b → Reads table b c → Reads table a c
   reads_then {a} {b} {c} h g = record {
     loads = loads_then table a b c h.loads g.loads;
-    sought = sought_then (view a) (view b) (view c) h.sought g.sought;
+    sought = sought_then _ _ _ h.sought g.sought;
   }
 
   -- loads that leave the view
@@ -257,7 +257,7 @@ module _ {T A : Type 0} (table : RuleTable T A) where
       record {
         loads = loads_then table old peeked seen (peek_loads table slot peeked one)
             (peek_loads table slot seen (h.0, h.2));
-        sought = sought_then (view old) (view peeked) (view seen) (glimpse_sought (glimpsed ∙ ap
+        sought = sought_then _ _ _ (glimpse_sought (glimpsed ∙ ap
             (λ o. record (view old) { glimpse = o })
             (sym (ap (λ (z : View T). z.glimpse) glimpsed)))) both.0;
       },

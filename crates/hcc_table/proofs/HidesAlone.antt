@@ -185,8 +185,8 @@ module _ {T A : Type 0} (table : RuleTable T A) (one : clients_of table ≡ 1) w
       → (s : ℕ) → shown_at (world_at table b) s ≡ shown_at (world_at table a) s
   freed_keeps {slot} {charge} {name} a {took} b event empties none s =
       empty_tells (world_at table mid) (world_at table b) (view a).client slot (view a).client 0
-      (event_alone table one (did (events.Empty (view a).client) replies.Ok) mid b empties.2)
-      (ap (λ xs. slice_get xs slot) kept.0 ∙ told.1) (kept.1 (view a).client ∙ told.2) s
+      (event_alone table one _ mid b empties.2) (ap (λ xs. slice_get xs slot) kept.0 ∙ told.1)
+      (kept.1 (view a).client ∙ told.2) s
       ∙ ap (λ xs. option_and_then entry_shown (slice_get xs s)) kept.0
       ∙ told.0 s
     where
@@ -199,7 +199,7 @@ module _ {T A : Type 0} (table : RuleTable T A) (one : clients_of table ≡ 1) w
           × (owned_at (world_at table took) (view a).client ≡ Some (owned.ForFreeing slot))
       told =
           free_tells (world_at table a) (world_at table took) (view a).client slot charge name
-          (event_alone table one (free_event slot name charge (view a)) a took event) none
+          (event_alone table one _ a took event) none
 
       led : world_at table mid
           ≡ after_all (world_at table took) (events_of empties.1.more)
@@ -229,7 +229,7 @@ module _ {T A : Type 0} (table : RuleTable T A) (one : clients_of table ≡ 1) w
   takes_keep false freed h none s = ap (λ z. shown_at (world_at table z) s) (h.1 refl)
   takes_keep {slot} true None {a} {b} h none s =
       let lost = (h.0 refl).lost in
-      alone_shows table one (seeks_one table (look_done slot lost.0 (view a)) a b lost.2 refl) s
+      alone_shows table one (seeks_one table _ a b lost.2 refl) s
   takes_keep {slot} {word} {name} true (Some charge) {a} {b} h none s =
       let won = (h.0 refl).won in
       freed_keeps a b won.1 won.2 none s
@@ -245,8 +245,8 @@ module _ {T A : Type 0} (table : RuleTable T A) (one : clients_of table ≡ 1) w
       → shown_at (world_at table hid) s ≡ shown_at (world_at table a) s)
   hid_tells {slot} {name} found a hid event told {r} there on =
       hide_tells (world_at table a) (world_at table hid) (view a).client name slot
-      (is_visible found) r.entry (finds_at a) (finds_at hid)
-      (event_alone table one (hide_done name found (view a)) a hid event) held
+      (is_visible found) r.entry (finds_at a) (finds_at hid) (event_alone table one _ a hid event)
+      held
     where
       held : held_at (world_at table hid) (view a).client name slot ≡ Some r.entry
       held =
@@ -327,8 +327,7 @@ module _ {T A : Type 0} (table : RuleTable T A) (one : clients_of table ≡ 1) w
             × Makes (address_of_meta table slot) 1 0 left h.tried b
             × (done.slots ≡ 0) × (done.charge ≡ 0)
             × IsEvent table (give_done 1 name left (view h.tried)) h.tried b)) is h.given in
-            alone_shows table one
-            (seeks_one table (give_done 1 name given.0 (view h.tried)) h.tried b given.4 refl) s
+            alone_shows table one (seeks_one table _ h.tried b given.4 refl) s
         last (Some charge) is s =
             let won = subst (λ o. IfSome o (λ charge.
             (b ≡ h.tried) × (done.slots ≡ 1) × (done.charge ≡ charge))) is h.won in
@@ -344,9 +343,8 @@ module _ {T A : Type 0} (table : RuleTable T A) (one : clients_of table ≡ 1) w
       catches_seek : {slot word : ℕ} {e f : Effort} {a b : SeatOf T}
           → Catches fits table key name (Looks table slot) slot 1 word e f a b → Seeks table a b
       catches_seek {slot} {word} {e} {f} {a} {b} h =
-          seeks_then table a h.looked b (looks_seek table slot h.seen a h.looked h.first)
-          (seeks_then table h.looked h.mid b
-          (seeks_then table h.looked h.reaches.by.mid h.mid
+          seeks_then table a _ b (looks_seek table slot h.seen a h.looked h.first) (seeks_then table
+          _ h.mid b (seeks_then table _ _ h.mid
           (reach_seeks table slot 1 name word h.looked h.mid h.reaches.by)
           (reached_seeks table slot 1 name word h.looked h.mid h.reaches.by)) h.seeks)
 
@@ -380,8 +378,8 @@ module _ {T A : Type 0} (table : RuleTable T A) (one : clients_of table ≡ 1) w
           × ¬ ShowsKey (world_at table b) key slot
       hid_at_loses {slot} {p} {e} {f} {a} {b} low h =
           let done = passed_loses low h.does in
-          let stays = loses_same (slots_of table) key (alone_shows table one (seeks_one table
-          (count_done slot p.found.displacement (view h.mid)) h.mid b h.event refl)) in (
+          let stays = loses_same (slots_of table) key
+          (alone_shows table one (seeks_one table _ h.mid b h.event refl)) in (
             subst (λ n. Loses (slots_of table) key n (world_at table a) (world_at table b)) nothing
                 (loses_then (slots_of table) key done.0 stays),
             still_lacks (slots_of table) key stays slot done.1,

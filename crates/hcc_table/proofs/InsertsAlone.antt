@@ -56,7 +56,7 @@ module _ {T A : Type 0} (table : RuleTable T A) (one : clients_of table ≡ 1) (
       × (is_visible seen ≡ false → shown_at (world_at table b) slot ≡ None)
   looked_at {slot} {seen} {a} {b} h =
       occupy_tells (world_at table a) (world_at table b) (view a).client slot seen
-      (event_alone table one (occupy_done slot seen (view a)) a b h.3) h.2
+      (event_alone table one _ a b h.3) h.2
 
   module _ (fits : T → Key → List ℕ → Type 0) (name weight : ℕ) where
     -- An entry was passed: the slot doesn't show the key.
@@ -74,8 +74,7 @@ module _ {T A : Type 0} (table : RuleTable T A) (one : clients_of table ≡ 1) (
 
         led : Leads (world_at table a) (acquire_done slot weight name word (view a))
             (world_at table got)
-        led = event_alone table one (acquire_done slot weight name word (view a)) a got
-            h.reaches.by.adds
+        led = event_alone table one _ a got h.reaches.by.adds
 
         same : ShowsSame (world_at table a) (world_at table got)
         same = alone_shows table one (reach_seeks table slot weight name word a h.mid h.reaches.by)
@@ -132,7 +131,7 @@ module _ {T A : Type 0} (table : RuleTable T A) (one : clients_of table ≡ 1) (
         let rest = probes_lack (i + 1) ps h.0 f h.1 b h.3 in
         let same : ShowsSame (world_at table a) (world_at table h.1) =
         λ s. passed_keeps (world_at table at.mid) (view at.mid).client slot
-        (event_alone table one (pass_done slot (view at.mid)) at.mid h.1 at.event) s
+        (event_alone table one _ at.mid h.1 at.event) s
         ∙ first.0 s in (
           λ s. rest.0 s ∙ same s,
           λ k low high. elim (cases_lt i k) [
@@ -154,10 +153,8 @@ module _ {T A : Type 0} (table : RuleTable T A) (one : clients_of table ≡ 1) (
         → ShowsSame (world_at table a) (world_at table b)
     released true other a b event =
         use_tells (world_at table a) (world_at table b) (view a).client name _
-        (event_alone table one (spend_done weight name other (view a)) a b event)
-    released false other a b event =
-        alone_shows table one
-        (seeks_one table (give_done weight name other (view a)) a b event refl)
+        (event_alone table one _ a b event)
+    released false other a b event = alone_shows table one (seeks_one table _ a b event refl)
 
     -- An entry of the key was met.
     matches_show : {slot : ℕ} {e f : Effort} {a b : SeatOf T}
@@ -186,17 +183,13 @@ module _ {T A : Type 0} (table : RuleTable T A) (one : clients_of table ≡ 1) (
 
         shown : (entry : Entry) × (shown_at (world_at table got) slot ≡ Some entry)
         shown = acquire_shows (world_at table h.mid) (world_at table got) (view h.mid).client slot
-            weight name h.word
-            (event_alone table one (acquire_done slot weight name h.word (view h.mid)) h.mid got
-            uses.reaches.by.adds) uses.visible
+            weight name h.word (event_alone table one _ h.mid got uses.reaches.by.adds) uses.visible
 
         seeks : Seeks table h.mid uses.held
         seeks =
-            seeks_then table h.mid uses.mid uses.held
-            (seeks_then table h.mid got uses.mid
+            seeks_then table h.mid _ _ (seeks_then table h.mid got _
             (reach_seeks table slot weight name h.word h.mid uses.mid uses.reaches.by)
-            (reached_seeks table slot weight name h.word h.mid uses.mid uses.reaches.by))
-            uses.seeks
+            (reached_seeks table slot weight name h.word h.mid uses.mid uses.reaches.by)) uses.seeks
 
     -- An entry of the key was shown in an empty slot.
     placed_shows : {slot : ℕ} {a b : SeatOf T} → ShowsBy fits table key name weight slot a b
@@ -218,7 +211,7 @@ module _ {T A : Type 0} (table : RuleTable T A) (one : clients_of table ≡ 1) (
             × (owned_at (world_at table h.took) (view a).client ≡ Some (owned.ForBuilding slot))
         took =
             taken_tells (world_at table a) (world_at table h.took) (view a).client slot h.word
-            (event_alone table one (occupy_done slot h.word (view a)) a h.took h.takes) h.empty
+            (event_alone table one _ a h.took h.takes) h.empty
 
         led : world_at table wrote
             ≡ after_all (world_at table h.took) (events_of h.builds.1.more)
@@ -242,10 +235,10 @@ module _ {T A : Type 0} (table : RuleTable T A) (one : clients_of table ≡ 1) (
             × ((s : ℕ) → s ≢ slot
             → shown_at (world_at table b) s ≡ shown_at (world_at table wrote) s)
         told =
-            show_tells (world_at table wrote) (world_at table b) (view wrote).client
-            h.made.key.w0 h.made.key.w1 h.made.charge weight h.called h.made.value slot took.2.0 _
-            (event_alone table one (show_done weight h.called h.made (view wrote)) wrote b
-            h.builds.3) mine (ap (λ xs. slice_get xs slot) kept.0 ∙ took.2.1)
+            show_tells (world_at table wrote) (world_at table b) (view wrote).client h.made.key.w0
+            h.made.key.w1 h.made.charge weight h.called h.made.value slot took.2.0 _
+            (event_alone table one _ wrote b h.builds.3) mine
+            (ap (λ xs. slice_get xs slot) kept.0 ∙ took.2.1)
 
         asked : key_of told.0.0 ≡ key
         asked =

@@ -86,7 +86,7 @@ module _ {T A : Type 0} (fits : T → Key → List ℕ → Type 0) (table : Rule
             subst (Seeks table h.mid) (sym (h.stray away)) (seeks_none table h.mid)
         hidden off true has =
             let given = h.hidden (rw (has, off) refl) in
-            seeks_one table (give_done 1 name given.0 (view h.mid)) h.mid b given.2 refl
+            seeks_one table _ h.mid b given.2 refl
 
         by : (shown : Bool) → is_visible h.word ≡ shown → Seeks table h.mid b
         by true on = subst (Seeks table h.mid) (sym (h.shown on).1) (seeks_none table h.mid)
@@ -95,8 +95,8 @@ module _ {T A : Type 0} (fits : T → Key → List ℕ → Type 0) (table : Rule
     -- So is all behind the add,
     added_seek : Seeks table h.reaches.by.mid b
     added_seek =
-        seeks_then table h.reaches.by.mid h.mid b
-        (reached_seeks table slot 1 name h.word a h.mid h.reaches.by) kept_seek
+        seeks_then table _ h.mid b (reached_seeks table slot 1 name h.word a h.mid h.reaches.by)
+        kept_seek
 
     -- and with it.
     holds_seek : Seeks table a b
@@ -106,9 +106,7 @@ module _ {T A : Type 0} (fits : T → Key → List ℕ → Type 0) (table : Rule
 
     added_leads : (w : State) × Leads w (acquire_done slot 1 name h.word (view a))
         (world_at table h.reaches.by.mid)
-    added_leads =
-        event_leads table (acquire_done slot 1 name h.word (view a)) a h.reaches.by.mid
-        h.reaches.by.adds
+    added_leads = event_leads table _ a h.reaches.by.mid h.reaches.by.adds
 
     -- where the add found the slot not visible it showed nothing then
     added_none : is_visible h.word ≡ false
@@ -144,7 +142,7 @@ module _ {T A : Type 0} (fits : T → Key → List ℕ → Type 0) (table : Rule
       by false takes = subst (Seeks table a) (sym (takes.1 refl)) (seeks_none table a)
       by true takes =
           let lost = (takes.0 refl).lost in
-          seeks_one table (look_done slot lost.0 (view a)) a b lost.2 refl
+          seeks_one table _ a b lost.2 refl
 
   -- In a shard of one client a slot that showed nothing once shows nothing when the call began.
   once_none : clients_of table ≡ 1 → {old last : SeatOf T} → ShowsNoneOnce table slot old last
@@ -161,12 +159,11 @@ module _ {T A : Type 0} (fits : T → Key → List ℕ → Type 0) (table : Rule
       unfreed_seek none = by (is_visible h.seen) refl
         where
           by : (b : Bool) → is_visible h.seen ≡ b → Seeks table old new
-          by true on =
-              seeks_then table old h.looked new looked (holds_seek (h.shown on).0)
+          by true on = seeks_then table old _ new looked (holds_seek (h.shown on).0)
           by false off =
-              seeks_then table old h.looked new looked
-              (frees_seek (subst (λ o. Frees table slot h.seen room o before after h.looked new)
-              none (h.unshown off).1))
+              seeks_then table old _ new looked (frees_seek
+              (subst (λ o. Frees table slot h.seen room o before after h.looked new) none
+              (h.unshown off).1))
 
       -- the look was a moment of what came with it
       look_moment : {last : SeatOf T} → Seeks table h.looked last
@@ -176,7 +173,7 @@ module _ {T A : Type 0} (fits : T → Key → List ℕ → Type 0) (table : Rule
       -- where it found the slot not visible, that showed nothing then
       look_none : is_visible h.seen ≡ false → shown_at (world_at table h.looked) slot ≡ None
       look_none off =
-          let led = event_leads table (look_done slot h.seen (view old)) old h.looked h.looks.2 in
+          let led = event_leads table _ old h.looked h.looks.2 in
           look_tells led.0 (world_at table h.looked) (view old).client slot h.seen led.1 off
 
       -- the add was a moment of all
@@ -236,8 +233,7 @@ module _ {T A : Type 0} (fits : T → Key → List ℕ → Type 0) (table : Rule
             → TakesUnheld table slot charge h.looked new
         freed f =
             let free = (f.takes.0 f.tries.won.0).won in
-            let led = event_leads table (free_event slot None charge (view h.looked)) h.looked
-            free.0 free.1 in
+            let led = event_leads table _ h.looked free.0 free.1 in
             record {
               took = free.0;
               event = free.1;

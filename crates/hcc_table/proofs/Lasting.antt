@@ -80,7 +80,7 @@ module _ {T A : Type 0} (table : RuleTable T A) where
       → IsMomentOf table moment old new → (s : ℕ)
       → shown_at (world_at table moment) s ≡ shown_at (world_at table old) s
   moment_shows one {old} {moment} m s =
-      alone_shows one (seeks_then table old m.before moment m.began
+      alone_shows one (seeks_then table old _ moment m.began
       (seeks_one table m.done m.before moment m.step m.seeking)) s
 
   module _ (key : Key) (slot : ℕ) (old new : SeatOf T) where
@@ -97,7 +97,7 @@ module _ {T A : Type 0} (table : RuleTable T A) where
   -- Each part of a search only searches.
 
   pub looks_seek : (slot seen : ℕ) (a b : SeatOf T) → Looks table slot seen a b → Seeks table a b
-  looks_seek slot seen a b h = seeks_one table (look_done slot seen (view a)) a b h.2 refl
+  looks_seek slot seen a b h = seeks_one table _ a b h.2 refl
 
   pub looks_led : {slot seen : ℕ} {a b : SeatOf T} → Looks table slot seen a b → Led table a b
   looks_led {slot} {seen} {a} {b} h = record {
@@ -108,7 +108,7 @@ module _ {T A : Type 0} (table : RuleTable T A) where
   tries_seek : (slot name word other : ℕ) (v : View T) {a b : SeatOf T}
       → IsEvent table (correct_done slot name word other v) a b → Seeks table a b
   tries_seek slot name word other v {a} {b} event =
-      seeks_one table (correct_done slot name word other v) a b event (by (other == word))
+      seeks_one table _ a b event (by (other == word))
     where
       by : (b : Bool)
           → is_seeking (if b then did (events.Correct v.client name) replies.Ok
@@ -127,8 +127,7 @@ module _ {T A : Type 0} (table : RuleTable T A) where
 
   pub reach_seeks : (slot weight name word : ℕ) (a b : SeatOf T)
       (h : ReachesBy table slot weight name word a b) → Seeks table a h.mid
-  reach_seeks slot weight name word a b h =
-      seeks_one table (acquire_done slot weight name word (view a)) a h.mid h.adds refl
+  reach_seeks slot weight name word a b h = seeks_one table _ a h.mid h.adds refl
 
   -- what a record of an acquire is on is what the world after it shows there
   pub met_there : (slot weight name word : ℕ) (a b : SeatOf T)
@@ -150,8 +149,7 @@ module _ {T A : Type 0} (fits : T → Key → List ℕ → Type 0) (table : Rule
   pub entry_seeks : (slot weight word : ℕ) (e f : Effort) (a b : SeatOf T)
       → PassesEntry fits table key name slot weight word e f a b → Seeks table a b
   entry_seeks slot weight word e f a b h =
-      seeks_then table a h.mid b
-      (seeks_then table a h.reaches.by.mid h.mid
+      seeks_then table a h.mid b (seeks_then table a _ h.mid
       (reach_seeks table slot weight name word a h.mid h.reaches.by)
       (reached_seeks table slot weight name word a h.mid h.reaches.by)) h.seeks
 
@@ -183,7 +181,7 @@ module _ {T A : Type 0} (fits : T → Key → List ℕ → Type 0) (table : Rule
       → Probed fits table key name slot p e f a b → Led table a b
   probed_led {slot} {p} {e} {f} {a} {b} h =
       led_then table (passes_led h.passes) (record {
-        seeks = seeks_one table (count_done slot p.displacement (view h.mid)) h.mid b h.event refl;
+        seeks = seeks_one table _ h.mid b h.event refl;
         same = ap (λ (v : View T). v.client) h.kept;
       })
 
@@ -206,7 +204,7 @@ module _ {T A : Type 0} (fits : T → Key → List ℕ → Type 0) (table : Rule
 
         by : (shown : Bool) → is_visible h.seen ≡ shown → LacksOnce table key slot old new
         by false off =
-            let led = event_leads table (look_done slot h.seen (view a)) a h.mid h.first.2 in (
+            let led = event_leads table _ a h.mid h.first.2 in (
               h.mid,
               moment_of table before h.first.2 refl refl
                   (subst (λ z. Seeks table z new) (h.unshown off).2 behind),
@@ -223,15 +221,14 @@ module _ {T A : Type 0} (fits : T → Key → List ℕ → Type 0) (table : Rule
 
             led : (w : State) × Leads w (acquire_done slot 1 name word (view h.mid))
                 (world_at table got)
-            led = event_leads table (acquire_done slot 1 name word (view h.mid)) h.mid got
-                entry.reaches.by.adds
+            led = event_leads table _ h.mid got entry.reaches.by.adds
 
             moment : ¬ ShowsKey (world_at table got) key slot → LacksOnce table key slot old new
             moment none = (
               got,
-              moment_of table looked entry.reaches.by.adds refl refl (seeks_then table got entry.mid
-                  new (reached_seeks table slot 1 name word h.mid entry.mid entry.reaches.by)
-                  (seeks_then table entry.mid b new entry.seeks behind)),
+              moment_of table looked entry.reaches.by.adds refl refl (seeks_then table got _ new
+                  (reached_seeks table slot 1 name word h.mid entry.mid entry.reaches.by)
+                  (seeks_then table _ b new entry.seeks behind)),
               none,
             )
 
@@ -261,9 +258,9 @@ module _ {T A : Type 0} (fits : T → Key → List ℕ → Type 0) (table : Rule
           let same : i ≡ k = omega arith in
           subst (λ n. LacksOnce table key (probe_slot (slots_of table) key n) old new) same
           (passes_lack (probe_slot (slots_of table) key i) p.word e h.0 a h.2.mid before
-          (seeks_then table h.2.mid b new (seeks_then table h.2.mid h.1 b (seeks_one table
-          (count_done (probe_slot (slots_of table) key i) p.displacement (view h.2.mid)) h.2.mid h.1
-          h.2.event refl) (probes_led (i + 1) ps h.0 f h.3).seeks) behind) h.2.passes)
+          (seeks_then table h.2.mid b new (seeks_then table h.2.mid h.1 b
+          (seeks_one table _ h.2.mid h.1 h.2.event refl) (probes_led (i + 1) ps h.0 f h.3).seeks)
+          behind) h.2.passes)
     ]
 
     -- an entry that was caught was shown once
@@ -396,7 +393,7 @@ module _ {T A : Type 0} (fits : T → Key → List ℕ → Type 0) (table : Rule
     marked_seeks : Seeks table f.held new
     marked_seeks = elim f.by [
       | inl same ↦ subst (λ z. Seeks table f.held z) (sym same) (seeks_none table f.held)
-      | inr event ↦ seeks_one table (mark_done name (view f.held)) f.held new event refl
+      | inr event ↦ seeks_one table _ f.held new event refl
     ]
 
     passed_led : Led table old f.mid
@@ -405,10 +402,8 @@ module _ {T A : Type 0} (fits : T → Key → List ℕ → Type 0) (table : Rule
     caught_seeks : Seeks table f.mid f.held
     caught_seeks =
         let h = f.catches in
-        seeks_then table f.mid h.looked f.held
-        (looks_seek table slot h.seen f.mid h.looked h.first)
-        (seeks_then table h.looked h.mid f.held
-        (seeks_then table h.looked h.reaches.by.mid h.mid
+        seeks_then table f.mid _ f.held (looks_seek table slot h.seen f.mid h.looked h.first)
+        (seeks_then table _ h.mid f.held (seeks_then table _ _ h.mid
         (reach_seeks table slot 1 name word h.looked h.mid h.reaches.by)
         (reached_seeks table slot 1 name word h.looked h.mid h.reaches.by)) h.seeks)
 
@@ -433,7 +428,7 @@ module _ {T A : Type 0} (fits : T → Key → List ℕ → Type 0) (table : Rule
       (probes_led 0 (m.earlier ++ m.last ∷ []) before m.between m.probes).seeks
   searches_seek marks (Some pin) before last old new h =
       seeks_then table old h.1.mid new (passed_led h.1).seeks
-      (seeks_then table h.1.mid h.1.held new (caught_seeks h.1) (marked_seeks h.1))
+      (seeks_then table h.1.mid _ new (caught_seeks h.1) (marked_seeks h.1))
 
   -- Any number of clients.
   pub finds_lasting : (marks : Bool) (answer : Option Pin) (before after : Effort)

@@ -119,7 +119,7 @@ module _ {T A : Type 0} (table : RuleTable T A) where
       record {
         before = m.before;
         done = m.done;
-        began = seeks_then table old began m.before led.seeks m.began;
+        began = seeks_then table old began _ led.seeks m.began;
         step = m.step;
         seeking = m.seeking;
         own = m.own ∙ led.same;

@@ -82,6 +82,5 @@ counts_seek {T} {A} {fits} {table} {name} {slot} {charge} {before} {after} {old}
 
     by : (b : Bool) → is_held h.seen ≡ b → Seeks table old new
     by false is =
-        subst (Seeks table old) (sym (h.unheld is).2)
-        (seeks_one table (look_done slot h.seen (view old)) old h.mid h.looks.2 refl)
+        subst (Seeks table old) (sym (h.unheld is).2) (seeks_one table _ old h.mid h.looks.2 refl)
     by true is = reached (h.held is)

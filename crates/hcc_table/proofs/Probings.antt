@@ -33,7 +33,7 @@ pub stray_unshown : (word : ℕ) → is_shareable word ≡ false → is_visible 
 stray_unshown word stray = from (is_visible word) refl
   where
     from : (b : Bool) → is_visible word ≡ b → is_visible word ≡ false
-    from true shown = neither (is_shareable word) (visible_has word shown) stray
+    from true shown = neither _ (visible_has word shown) stray
     from false hidden = hidden
 
 pub one_longer : {A : Type 0} (xs : List A) (x : A) → length (xs ++ x ∷ []) ≡ length xs + 1

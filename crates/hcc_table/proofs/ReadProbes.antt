@@ -84,7 +84,7 @@ module _ {T A : Type 0} (table : RuleTable T A) where
         → IsEvent table (look_done slot word (view a)) a b → is_visible word ≡ false
         → LacksOnce table key slot a b
     look_lacks {slot} word {a} {b} event off =
-        let led = event_leads table (look_done slot word (view a)) a b event in (
+        let led = event_leads table _ a b event in (
           b,
           moment_of table (led_none table a) event refl refl (seeks_none table b),
           none_shown (world_at table b) key slot
@@ -153,7 +153,7 @@ module _ {T A : Type 0} (table : RuleTable T A) where
         by k inside = elim (cases_lt i k) [
           | inr visited ↦ before k (omega arith)
           | inl beyond ↦
-              let led_to = event_leads table (count_done slot n (view probed)) probed new event in
+              let led_to = event_leads table _ probed new event in
               let told = count_tells led_to.0 (world_at table new) (view probed).client slot n
               led_to.1 in
               let on = subst (λ z. n ≡ passed_by (world_at table new).slots

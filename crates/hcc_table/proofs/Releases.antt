@@ -68,18 +68,15 @@ frees_tell w next client slot charge name is =
 pub gives_still : {T A : Type 0} (table : RuleTable T A) (used : Bool)
     (slot weight name left : ℕ) (a b : SeatOf T) → IsLeftBy table slot weight name used left a b
     → GoesOnStill table a b
-gives_still table true slot weight name left a b h =
-    goes_event table is_still (spend_done weight name h.0 (view a)) a b h.2 refl
-gives_still table false slot weight name left a b h =
-    goes_event table is_still (give_done weight name h.0 (view a)) a b h.2 refl
+gives_still table true slot weight name left a b h = goes_event table is_still _ a b h.2 refl
+gives_still table false slot weight name left a b h = goes_event table is_still _ a b h.2 refl
 
 -- A release that freed nothing.
 pub unfreed_still : {T A : Type 0} (table : RuleTable T A) (slot name : ℕ)
     (room used erase : Bool) (a b : SeatOf T) → ReleasesBy table slot name room used erase None a b
     → GoesOnStill table a b
 unfreed_still table slot name room used erase a b h =
-    goes_then table is_still a h.between b
-    (gives_still table used slot 1 name h.left a h.between h.gives)
+    goes_then table is_still a _ b (gives_still table used slot 1 name h.left a h.between h.gives)
     (by (room && is_due erase h.left) h.takes)
   where
     by : (due : Bool) → TakesByWhereDue table slot h.left None due None h.between b
@@ -87,7 +84,7 @@ unfreed_still table slot name room used erase a b h =
     by false takes = goes_none table is_still h.between b (takes.1 refl)
     by true takes =
         let lost = (takes.0 refl).lost in
-        goes_event table is_still (look_done slot lost.0 (view h.between)) h.between b lost.2 refl
+        goes_event table is_still _ h.between b lost.2 refl
 
 module _ {T A : Type 0} (table : RuleTable T A) (one : clients_of table ≡ 1) where
   -- Calls that make and take no entry, and show and hide none.
@@ -115,7 +112,7 @@ module _ {T A : Type 0} (table : RuleTable T A) (one : clients_of table ≡ 1) w
           × (owned_at (world_at table took) (view a).client ≡ Some (owned.ForFreeing slot))
       told =
           frees_tell (world_at table a) (world_at table took) (view a).client slot charge name
-          (event_alone table one (free_event slot name charge (view a)) a took event)
+          (event_alone table one _ a took event)
 
       led : world_at table mid ≡ after_all (world_at table took) (events_of empties.1.more)
       led =
@@ -130,8 +127,8 @@ module _ {T A : Type 0} (table : RuleTable T A) (one : clients_of table ≡ 1) w
       rest : (s : ℕ) → shown_at (world_at table b) s ≡ shown_at (world_at table took) s
       rest s =
           empty_tells (world_at table mid) (world_at table b) (view a).client slot (view a).client 0
-          (event_alone table one (did (events.Empty (view a).client) replies.Ok) mid b empties.2)
-          (ap (λ xs. slice_get xs slot) kept.0 ∙ told.1) (kept.1 (view a).client ∙ told.2) s
+          (event_alone table one _ mid b empties.2) (ap (λ xs. slice_get xs slot) kept.0 ∙ told.1)
+          (kept.1 (view a).client ∙ told.2) s
           ∙ ap (λ xs. option_and_then entry_shown (slice_get xs s)) kept.0
 
   -- To take an entry was tried where it was due.
@@ -145,8 +142,7 @@ module _ {T A : Type 0} (table : RuleTable T A) (one : clients_of table ≡ 1) w
       record { others = λ s other. same s; kept = same slot; gone = tt }
   takes_show {slot} true None {a} {b} h won =
       let lost = (h.0 refl).lost in
-      let same = still_shows a b
-      (goes_event table is_still (look_done slot lost.0 (view a)) a b lost.2 refl) in
+      let same = still_shows a b (goes_event table is_still _ a b lost.2 refl) in
       record { others = λ s other. same s; kept = same slot; gone = tt }
   takes_show {slot} {word} {name} true (Some charge) {a} {b} h won =
       let free = (h.0 refl).won in freed_shows a b free.1 free.2

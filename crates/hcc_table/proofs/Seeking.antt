@@ -130,4 +130,4 @@ module _ {T A : Type 0} (table : RuleTable T A) where
       by : (o : Option Record) → IsSomeAnd o P
           → IfSome o (λ r. IsEvent table (read_done name r.entry (view a)) a b) → Seeks table a b
       by None holds event = absurd holds
-      by (Some r) holds event = seeks_one (read_done name r.entry (view a)) a b event refl
+      by (Some r) holds event = seeks_one _ a b event refl

@@ -124,7 +124,7 @@ module _ {T A : Type 0} (table : RuleTable T A) where
       → IsEvent table (look_done slot seen (view a)) a b
       → ReachesBy table slot weight name word b c → Seeks table a c
   looks_reach {slot} {weight} {name} seen {word} {a} {b} {c} event h =
-      seeks_then table a b c (seeks_one table (look_done slot seen (view a)) a b event refl)
+      seeks_then table a b c (seeks_one table _ a b event refl)
       (reaches_seek slot weight name word b c h)
 
   pub reads_give : (slot weight : ℕ) {name : ℕ} (word : ℕ) {a : SeatOf T} (b : SeatOf T) {c : SeatOf
@@ -134,7 +134,7 @@ module _ {T A : Type 0} (table : RuleTable T A) where
       → IsEvent table (give_done weight name word (view b)) b c → Seeks table a c
   reads_give slot weight {name} word {a} b {c} on reads gives =
       seeks_then table a b c (seeks_read table name (λ r. r.slot ≡ slot) on reads)
-      (seeks_one table (give_done weight name word (view b)) b c gives refl)
+      (seeks_one table _ b c gives refl)
 
   -- What settles books, and what books makes and takes no entry.
   pub settled_books : (a b : SeatOf T) → GoesOnBy table is_settling a b

@@ -195,11 +195,10 @@ module _ {T A : Type 0} (table : RuleTable T A) (one : clients_of table ≡ 1) w
       by : (used : Bool) → IsEvent table (release_done used 1 name h.0 (view a)) a b
           → phase_in h.0 ≡ phases.Shown
       by true event =
-          use_shown (view a).client name slot finds held.1 shown
-          (event_alone table one (spend_done 1 name h.0 (view a)) a b event)
+          use_shown (view a).client name slot finds held.1 shown (event_alone table one _ a b event)
       by false event =
           give_shown (view a).client name slot finds held.1 shown
-          (event_alone table one (give_done 1 name h.0 (view a)) a b event)
+          (event_alone table one _ a b event)
 
   -- A release that doesn't ask to erase, and that freed an entry: its slot showed nothing.
   pub unerased_hidden : (slot name charge : ℕ) (room used : Bool) (a b : SeatOf T)

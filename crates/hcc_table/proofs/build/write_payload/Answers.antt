@@ -36,10 +36,8 @@ loop-k-preserved g c =
       omega arith,
       adds_then c.args.seat.now c.loop-k.seat c.write_at.new.seat c.loop-k.invariant.2
           (adds_one _ c.loop-k.seat c.write_at.new.seat c.write_at.ensures.step.step),
-      goes_then c.args.table.now is_write c.args.seat.now c.loop-k.seat c.write_at.new.seat
-          c.loop-k.invariant.3
-          (goes_event c.args.table.now is_write _ c.loop-k.seat c.write_at.new.seat
-          c.write_at.ensures.event refl),
+      goes_then c.args.table.now is_write _ _ _ c.loop-k.invariant.3 (goes_event c.args.table.now
+          is_write _ c.loop-k.seat c.write_at.new.seat c.write_at.ensures.event refl),
     )
 
 pub write_at-requires-then-value-gt0-clause-next : goal.write_at-requires-then-value-gt0-clause-next
@@ -65,6 +63,5 @@ returns-else-value-gt0-clause-view g c =
 pub returns-then-value-gt0-clause-by : goal.returns-then-value-gt0-clause-by
 returns-then-value-gt0-clause-by g c =
     let last = c.write_at-then-value-gt0 in
-    goes_then c.args.table.now is_write c.args.seat.now c.loop-k.seat last.new.seat
-    c.loop-k.invariant.3
+    goes_then c.args.table.now is_write _ _ _ c.loop-k.invariant.3
     (goes_event c.args.table.now is_write _ c.loop-k.seat last.new.seat last.ensures.event refl)

@@ -42,6 +42,6 @@ loop-preserved g c =
           omega arith),
       adds_then c.args.seat.now c.loop.seat c.unpass.new.seat c.loop.invariant.2
           (adds_one _ c.loop.seat c.unpass.new.seat c.unpass.ensures.step.1.step),
-      goes_then table is_unpass c.args.seat.now c.loop.seat c.unpass.new.seat c.loop.invariant.3
+      goes_then table is_unpass _ _ _ c.loop.invariant.3
           (goes_event table is_unpass _ c.loop.seat c.unpass.new.seat c.unpass.ensures.event refl),
     )

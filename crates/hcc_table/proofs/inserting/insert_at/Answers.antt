@@ -25,8 +25,7 @@ returns-clause-tries g c = elim c.else-is_shown.branch [
         sym c.if-is_free.ensures,
         c.occupy_at-found.ensures.event,
       );
-      unshown = λ unseen. neither (is_visible c.occupy_at-found.result) (sym w.if-is_shown.ensures)
-          unseen;
+      unshown = λ unseen. neither _ (sym w.if-is_shown.ensures) unseen;
       shown = λ _. rw (w.seat-is, w.effort-is) (w.meet.ensures.passes w.if-meet.false).1;
     },
   )
@@ -42,8 +41,7 @@ returns-clause-tries g c = elim c.else-is_shown.branch [
         c.occupy_at-found.ensures.event,
       );
       unshown = λ _. (refl, w.effort-is, w.seat-is);
-      shown = λ shown. neither (is_visible c.occupy_at-found.result) shown
-          (sym w.if-is_shown.ensures);
+      shown = λ shown. neither _ shown (sym w.if-is_shown.ensures);
     },
   )
 ]

@@ -130,10 +130,10 @@ returns-then-not-has_entry-clause-passes g c _ = (
     adds = unmarked_none refl;
     seeks = seeks_none c.args.table.now c.reach-found.new.seat;
     kept = returns-then-not-has_entry-clause-view g c;
-    other = λ shown. neither (is_shareable c.reach-found.result)
-        (visible_has c.reach-found.result shown) (sym c.if-not-has_entry.ensures);
-    loads = λ shown. neither (is_shareable c.reach-found.result)
-        (visible_has c.reach-found.result shown) (sym c.if-not-has_entry.ensures);
+    other = λ shown. neither _ (visible_has c.reach-found.result shown)
+        (sym c.if-not-has_entry.ensures);
+    loads = λ shown. neither _ (visible_has c.reach-found.result shown)
+        (sym c.if-not-has_entry.ensures);
   },
 )
 
@@ -149,9 +149,8 @@ returns-clause-passes g c _ = (
       by = c.reach-found.ensures.by;
     };
     adds = unmarked_then c.matches.ensures.adds given;
-    seeks = seeks_then c.args.table.now c.reach-found.new.seat c.matches.new.seat c.give_at.new.seat
-        c.matches.ensures.seeks (seeks_one c.args.table.now _ c.matches.new.seat c.give_at.new.seat
-        c.give_at.ensures.event refl);
+    seeks = seeks_then c.args.table.now _ _ _ c.matches.ensures.seeks (seeks_one c.args.table.now _
+        c.matches.new.seat c.give_at.new.seat c.give_at.ensures.event refl);
     kept = returns-clause-view g c;
     other = λ shown. on_told (searched_refl (view c.args.seat.now)) c.reach-found.ensures.view
         (sym c.if-not-has_entry.ensures) c.requires.fresh (λ e. ¬ (key_of e ≡ c.args.key))

@@ -23,10 +23,10 @@ returns-then-not-has_entry-clause-holds g c = record {
     corrects = c.reach-found.ensures.corrects;
     by = c.reach-found.ensures.by;
   };
-  shown = λ shown. neither (is_shareable c.reach-found.result)
-      (visible_has c.reach-found.result shown) (sym c.if-not-has_entry.ensures);
+  shown = λ shown. neither _ (visible_has c.reach-found.result shown)
+      (sym c.if-not-has_entry.ensures);
   unshown = λ _. refl;
-  hidden = λ hidden. neither (is_hidden c.reach-found.result) hidden
+  hidden = λ hidden. neither _ hidden
       (stray_word c.reach-found.result (sym c.if-not-has_entry.ensures));
   stray = λ _. refl;
 }
@@ -52,12 +52,10 @@ returns-then-not-is_shown-clause-holds g c = record {
     corrects = c.reach-found.ensures.corrects;
     by = c.reach-found.ensures.by;
   };
-  shown = λ shown. neither (is_visible c.reach-found.result) shown
-      (sym c.if-not-is_shown.ensures);
+  shown = λ shown. neither _ shown (sym c.if-not-is_shown.ensures);
   unshown = λ _. refl;
   hidden = λ _. (c.give_at.result, c.give_at.ensures.step, c.give_at.ensures.event);
-  stray = λ away. neither (is_shareable c.reach-found.result)
-      (sym c.if-not-has_entry.ensures) away;
+  stray = λ away. neither _ (sym c.if-not-has_entry.ensures) away;
 }
 
 pub returns-then-not-is_shown-clause-adds : goal.returns-then-not-is_shown-clause-adds
@@ -90,10 +88,8 @@ returns-clause-holds g c = record {
         (sym c.if-not-has_entry.ensures) c.requires.fresh
         (searched_refl (view c.reach-found.new.seat)),
   );
-  unshown = λ away. neither (is_visible c.reach-found.result)
-      (sym c.if-not-is_shown.ensures) away;
-  hidden = λ hidden. neither (is_hidden c.reach-found.result) hidden
+  unshown = λ away. neither _ (sym c.if-not-is_shown.ensures) away;
+  hidden = λ hidden. neither _ hidden
       (shown_word c.reach-found.result (sym c.if-not-is_shown.ensures));
-  stray = λ away. neither (is_shareable c.reach-found.result)
-      (sym c.if-not-has_entry.ensures) away;
+  stray = λ away. neither _ (sym c.if-not-has_entry.ensures) away;
 }

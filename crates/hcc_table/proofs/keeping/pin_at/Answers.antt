@@ -38,7 +38,7 @@ returns-in-Some-clause-pins g c = record {
   backs = c.look_at-seen.ensures.backs;
   all = c.look_at-seen.ensures.alone;
   shown = λ _. (c.in-Some.ensures.holds, refl);
-  unshown = λ off. neither (is_visible c.look_at-seen.result) (sym c.if-is_shown.ensures) off;
+  unshown = λ off. neither _ (sym c.if-is_shown.ensures) off;
 }
 
 pub returns-in-Some-clause-seeks : goal.returns-in-Some-clause-seeks
@@ -48,8 +48,7 @@ returns-in-Some-clause-seeks g c =
 
 pub returns-in-None-clause-view : goal.returns-in-None-clause-view
 returns-in-None-clause-view g c =
-    sought_then (view c.args.seat.now) (view c.look_at-seen.new.seat) (view c.hold_shown.new.seat)
-    (looked_at c.args.slot c.look_at-seen.result (view c.args.seat.now)
+    sought_then _ _ _ (looked_at c.args.slot c.look_at-seen.result (view c.args.seat.now)
     (view c.look_at-seen.new.seat) c.look_at-seen.ensures.view) c.in-None.ensures.none
 
 pub returns-in-None-clause-list : goal.returns-in-None-clause-list
@@ -65,7 +64,7 @@ returns-in-None-clause-pins g c = record {
   backs = c.look_at-seen.ensures.backs;
   all = c.look_at-seen.ensures.alone;
   shown = λ _. (c.in-None.ensures.holds, refl);
-  unshown = λ off. neither (is_visible c.look_at-seen.result) (sym c.if-is_shown.ensures) off;
+  unshown = λ off. neither _ (sym c.if-is_shown.ensures) off;
 }
 
 pub returns-in-None-clause-seeks : goal.returns-in-None-clause-seeks
@@ -88,8 +87,7 @@ returns-in-Some-free_hidden-clause-view g c =
 
 pub returns-in-None-free_hidden-clause-view : goal.returns-in-None-free_hidden-clause-view
 returns-in-None-free_hidden-clause-view g c =
-    sought_then (view c.args.seat.now) (view c.look_at-seen.new.seat) (view c.free_hidden.new.seat)
-    (looked_at c.args.slot c.look_at-seen.result (view c.args.seat.now)
+    sought_then _ _ _ (looked_at c.args.slot c.look_at-seen.result (view c.args.seat.now)
     (view c.look_at-seen.new.seat) c.look_at-seen.ensures.view) c.in-None-free_hidden.ensures.lost
 
 pub returns-in-None-free_hidden-clause-unmarked : goal.returns-in-None-free_hidden-clause-unmarked
@@ -109,6 +107,6 @@ returns-in-None-free_hidden-clause-seeks g c =
       );
       backs = c.look_at-seen.ensures.backs;
       all = c.look_at-seen.ensures.alone;
-      shown = λ on. neither (is_visible c.look_at-seen.result) on (sym c.if-is_shown.ensures);
+      shown = λ on. neither _ on (sym c.if-is_shown.ensures);
       unshown = λ _. (refl, c.in-None-free_hidden.ensures.tries);
     }) refl

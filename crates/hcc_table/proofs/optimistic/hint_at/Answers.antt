@@ -44,7 +44,6 @@ pub returns-clause-by : goal.returns-clause-by
 returns-clause-by g c =
     hints_read c.args.table.now c.look_at-seen.result c.look_at-seen.new.seat
     c.look_at-seen.ensures.view c.look_at-seen.ensures.event
-    (c.peek_at-2.ensures.view ∙ c.peek_at.ensures.view) (loads_then c.args.table.now
-    c.look_at-seen.new.seat c.peek_at.new.seat c.peek_at-2.new.seat
+    (c.peek_at-2.ensures.view ∙ c.peek_at.ensures.view) (loads_then c.args.table.now _ _ _
     (peek_loads c.args.table.now c.args.at.slot c.peek_at.new.seat c.peek_at.ensures.event)
     (peek_loads c.args.table.now c.args.at.slot c.peek_at-2.new.seat c.peek_at-2.ensures.event))

@@ -31,17 +31,13 @@ loop-probe-init g c = (
 
 pub returns-in-Some-clause-view : goal.returns-in-Some-clause-view
 returns-in-Some-clause-view g c =
-    sought_then (view c.args.seat.now) (view c.loop-probe.seat) (view c.read_hinted.new.seat)
-    c.loop-probe.invariant.0.sought
-    (sought_then (view c.loop-probe.seat) (view c.hint_at.new.seat) (view c.read_hinted.new.seat)
-    c.hint_at.ensures.by.sought c.read_hinted.ensures.by.sought)
+    sought_then _ _ _ c.loop-probe.invariant.0.sought
+    (sought_then _ _ _ c.hint_at.ensures.by.sought c.read_hinted.ensures.by.sought)
 
 pub returns-in-Some-clause-loads : goal.returns-in-Some-clause-loads
 returns-in-Some-clause-loads g c =
-    loads_then c.args.table.now c.args.seat.now c.loop-probe.seat c.read_hinted.new.seat
-    c.loop-probe.invariant.1
-    (loads_then c.args.table.now c.loop-probe.seat c.hint_at.new.seat c.read_hinted.new.seat
-    c.hint_at.ensures.by.loads c.read_hinted.ensures.by.loads)
+    loads_then c.args.table.now _ _ _ c.loop-probe.invariant.1
+    (loads_then c.args.table.now _ _ _ c.hint_at.ensures.by.loads c.read_hinted.ensures.by.loads)
 
 pub returns-in-Some-clause-reads : goal.returns-in-Some-clause-reads
 returns-in-Some-clause-reads g c =
@@ -103,30 +99,23 @@ returns-in-Some-clause-steps g c =
 
 pub returns-in_err-got-clause-view : goal.returns-in_err-got-clause-view
 returns-in_err-got-clause-view g c =
-    sought_then (view c.args.seat.now) (view c.loop-probe.seat) (view c.read_hinted.new.seat)
-    c.loop-probe.invariant.0.sought
-    (sought_then (view c.loop-probe.seat) (view c.hint_at.new.seat) (view c.read_hinted.new.seat)
-    c.hint_at.ensures.by.sought c.read_hinted.ensures.by.sought)
+    sought_then _ _ _ c.loop-probe.invariant.0.sought
+    (sought_then _ _ _ c.hint_at.ensures.by.sought c.read_hinted.ensures.by.sought)
 
 pub returns-in_err-got-clause-loads : goal.returns-in_err-got-clause-loads
 returns-in_err-got-clause-loads g c =
-    loads_then c.args.table.now c.args.seat.now c.loop-probe.seat c.read_hinted.new.seat
-    c.loop-probe.invariant.1
-    (loads_then c.args.table.now c.loop-probe.seat c.hint_at.new.seat c.read_hinted.new.seat
-    c.hint_at.ensures.by.loads c.read_hinted.ensures.by.loads)
+    loads_then c.args.table.now _ _ _ c.loop-probe.invariant.1
+    (loads_then c.args.table.now _ _ _ c.hint_at.ensures.by.loads c.read_hinted.ensures.by.loads)
 
 pub returns-then-count_at-eq0-clause-view : goal.returns-then-count_at-eq0-clause-view
 returns-then-count_at-eq0-clause-view g c =
     subst (λ v. Sought (view c.args.seat.now) v) (sym c.count_at.ensures.view)
-    (sought_then (view c.args.seat.now) (view c.loop-probe.seat) (view c.hint_at.new.seat)
-    c.loop-probe.invariant.0.sought c.hint_at.ensures.by.sought)
+    (sought_then _ _ _ c.loop-probe.invariant.0.sought c.hint_at.ensures.by.sought)
 
 pub returns-then-count_at-eq0-clause-loads : goal.returns-then-count_at-eq0-clause-loads
 returns-then-count_at-eq0-clause-loads g c =
-    loads_then c.args.table.now c.args.seat.now c.loop-probe.seat c.count_at.new.seat
-    c.loop-probe.invariant.1 (loads_then c.args.table.now c.loop-probe.seat c.hint_at.new.seat
-    c.count_at.new.seat c.hint_at.ensures.by.loads
-    (count_loads c.args.table.now c.count_at.ensures.event))
+    loads_then c.args.table.now _ _ _ c.loop-probe.invariant.1 (loads_then c.args.table.now _ _ _
+    c.hint_at.ensures.by.loads (count_loads c.args.table.now c.count_at.ensures.event))
 
 pub returns-then-count_at-eq0-clause-reads : goal.returns-then-count_at-eq0-clause-reads
 returns-then-count_at-eq0-clause-reads g c =
@@ -142,9 +131,9 @@ returns-then-count_at-eq0-clause-reads g c =
             loads = c.loop-probe.invariant.1;
             sought = c.loop-probe.invariant.0.sought;
           })) (slot_is c.loop-probe.invariant.0 c.slot-slot.ensures)
-          (loads_seek table c.loop-probe.seat c.hint_at.new.seat c.hint_at.ensures.by.loads) other.1
-          (loads_seek table c.hint_at.new.seat c.count_at.new.seat (count_loads table told.event)))
-          (led_then table (reads_led table (record {
+          (loads_seek table _ _ c.hint_at.ensures.by.loads) other.1
+          (loads_seek table _ _ (count_loads table told.event))) (led_then table (reads_led table
+          (record {
             loads = c.loop-probe.invariant.1;
             sought = c.loop-probe.invariant.0.sought;
           })) (reads_led table c.hint_at.ensures.by))
@@ -189,14 +178,13 @@ loop-probe-preserved g c =
           c.hint_at.ensures.seat told.seat (c.hint_at.ensures.by.sought, other.0) told.view
           told.held told.within c.next-walk.ensures.probe c.next-walk.ensures.stride
           c.next-walk.ensures.mask,
-      loads_then table c.args.seat.now c.loop-probe.seat c.count_at.new.seat
-          c.loop-probe.invariant.1 (loads_then table c.loop-probe.seat c.hint_at.new.seat
-          c.count_at.new.seat c.hint_at.ensures.by.loads (count_loads table told.event)),
+      loads_then table _ _ _ c.loop-probe.invariant.1
+          (loads_then table _ _ _ c.hint_at.ensures.by.loads (count_loads table told.event)),
       lacked_more table c.args.key c.loop-probe.invariant.2 (reads_led table
           (record { loads = c.loop-probe.invariant.1; sought = c.loop-probe.invariant.0.sought }))
           (slot_is c.loop-probe.invariant.0 c.slot-slot.ensures)
-          (loads_seek table c.loop-probe.seat c.hint_at.new.seat c.hint_at.ensures.by.loads) other.1
-          (loads_seek table c.hint_at.new.seat c.count_at.new.seat (count_loads table told.event)),
+          (loads_seek table _ _ c.hint_at.ensures.by.loads) other.1
+          (loads_seek table _ _ (count_loads table told.event)),
       omega (arith, so_far, more, last),
       c.loop-probe.invariant.4,
       c.loop-probe.invariant.5,

@@ -37,29 +37,26 @@ returns-in_default-clause-by g c =
     reads_then c.args.table.now (first_reads c.args.table.now c.args.at.slot c.glance_at-word.result
     c.glimpse_at-stamp.new.seat c.glimpse_at-stamp.ensures.view c.glimpse_at-stamp.ensures.event
     c.glance_at-word.ensures.event).0 (reads_kept c.args.table.now
-    (c.load_value.ensures.view ∙ c.shows_key.ensures.view) (loads_then c.args.table.now
-    c.glance_at-word.new.seat c.shows_key.new.seat c.load_value.new.seat c.shows_key.ensures.loads
-    c.load_value.ensures.loads))
+    (c.load_value.ensures.view ∙ c.shows_key.ensures.view)
+    (loads_then c.args.table.now _ _ _ c.shows_key.ensures.loads c.load_value.ensures.loads))
 
 pub returns-then-recheck_at-stamp-clause-by : goal.returns-then-recheck_at-stamp-clause-by
 returns-then-recheck_at-stamp-clause-by g c =
     all_reads c.args.table.now c.args.at.slot c.glance_at-word.result c.glance_at-last.result
     c.glimpse_at-stamp.new.seat c.glance_at-last.new.seat c.glimpse_at-stamp.ensures.view
     c.glimpse_at-stamp.ensures.event c.glance_at-word.ensures.event
-    (c.load_value.ensures.view ∙ c.shows_key.ensures.view) (loads_then c.args.table.now
-    c.glance_at-word.new.seat c.shows_key.new.seat c.load_value.new.seat c.shows_key.ensures.loads
-    c.load_value.ensures.loads) c.glance_at-last.ensures.event c.recheck_at.ensures.view
-    c.recheck_at.ensures.event
+    (c.load_value.ensures.view ∙ c.shows_key.ensures.view)
+    (loads_then c.args.table.now _ _ _ c.shows_key.ensures.loads c.load_value.ensures.loads)
+    c.glance_at-last.ensures.event c.recheck_at.ensures.view c.recheck_at.ensures.event
 
 pub returns-clause-by : goal.returns-clause-by
 returns-clause-by g c =
     all_reads c.args.table.now c.args.at.slot c.glance_at-word.result c.glance_at-last.result
     c.glimpse_at-stamp.new.seat c.glance_at-last.new.seat c.glimpse_at-stamp.ensures.view
     c.glimpse_at-stamp.ensures.event c.glance_at-word.ensures.event
-    (c.load_value.ensures.view ∙ c.shows_key.ensures.view) (loads_then c.args.table.now
-    c.glance_at-word.new.seat c.shows_key.new.seat c.load_value.new.seat c.shows_key.ensures.loads
-    c.load_value.ensures.loads) c.glance_at-last.ensures.event c.recheck_at.ensures.view
-    c.recheck_at.ensures.event
+    (c.load_value.ensures.view ∙ c.shows_key.ensures.view)
+    (loads_then c.args.table.now _ _ _ c.shows_key.ensures.loads c.load_value.ensures.loads)
+    c.glance_at-last.ensures.event c.recheck_at.ensures.view c.recheck_at.ensures.event
 
 pub returns-clause-reads : goal.returns-clause-reads
 returns-clause-reads g c = (
@@ -81,10 +78,9 @@ returns-clause-reads g c = (
       is_moment = moment_of c.args.table.now (peek_led c.args.table.now c.args.at.slot peeked
           c.glimpse_at-stamp.ensures.event
           (ap (λ (v : View g.row.T.Denot). v.client) c.glimpse_at-stamp.ensures.view))
-          c.glance_at-word.ensures.event.2 refl refl (seeks_then c.args.table.now seen keyed
-          c.recheck_at.new.seat to_keyed (seeks_then c.args.table.now keyed loaded
-          c.recheck_at.new.seat to_loaded
-          (seeks_then c.args.table.now loaded last c.recheck_at.new.seat to_last to_end)));
+          c.glance_at-word.ensures.event.2 refl refl (seeks_then c.args.table.now seen keyed _
+          to_keyed (seeks_then c.args.table.now keyed loaded _ to_loaded
+          (seeks_then c.args.table.now loaded last _ to_last to_end)));
       loads = c.glance_at-word.ensures.step;
       visible = visible;
       shows = first.shows.1;
@@ -123,8 +119,8 @@ returns-clause-reads g c = (
 
     to_end : Seeks c.args.table.now last c.recheck_at.new.seat
     to_end =
-        loads_seek c.args.table.now last c.recheck_at.new.seat (peek_loads c.args.table.now
-        c.args.at.slot c.recheck_at.new.seat c.recheck_at.ensures.event)
+        loads_seek c.args.table.now last _ (peek_loads c.args.table.now c.args.at.slot
+        c.recheck_at.new.seat c.recheck_at.ensures.event)
 
     visible : is_visible c.glance_at-word.result ≡ true
     visible = sym c.is_shown.ensures ∙ c.if-not-is_shown.false

@@ -14,7 +14,7 @@ pub returns-then-peek_at-key-clause-loads : goal.returns-then-peek_at-key-clause
 returns-then-peek_at-key-clause-loads g c =
     let one = c.peek_at in
     let two = c.peek_at-then-peek_at-key in
-    loads_then c.args.table.now c.args.seat.now one.new.seat two.new.seat
+    loads_then c.args.table.now _ _ _
     (peek_loads c.args.table.now c.args.at.slot one.new.seat one.ensures.event)
     (peek_loads c.args.table.now c.args.at.slot two.new.seat two.ensures.event)
 

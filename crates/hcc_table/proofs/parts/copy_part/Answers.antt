@@ -18,8 +18,7 @@ returns-then-front-count-clause-bytes g c =
 
 pub returns-then-front-count-clause-seeks : goal.returns-then-front-count-clause-seeks
 returns-then-front-count-clause-seeks g c =
-    seeks_then c.args.table.now c.args.seat.now c.copy_front-front.new.seat c.copy_from.new.seat
-    c.copy_front-front.ensures.seeks c.copy_from.ensures.seeks
+    seeks_then c.args.table.now _ _ _ c.copy_front-front.ensures.seeks c.copy_from.ensures.seeks
 
 pub returns-then-front-count-clause-steps : goal.returns-then-front-count-clause-steps
 returns-then-front-count-clause-steps g c =

@@ -65,7 +65,7 @@ returns-then-not-has_entry-2-clause-counts g c = record {
   seen = c.look_at-word.result;
   mid = c.look_at-word.new.seat;
   looks = (c.look_at-word.ensures.step, c.look_at-word.ensures.view, c.look_at-word.ensures.event);
-  unheld = λ none. neither (is_held c.look_at-word.result) held none;
+  unheld = λ none. neither _ held none;
   held = λ _. record {
     word = c.reach-found.result;
     mid = c.reach-found.new.seat;
@@ -75,11 +75,10 @@ returns-then-not-has_entry-2-clause-counts g c = record {
       corrects = c.reach-found.ensures.corrects;
       by = c.reach-found.ensures.by;
     };
-    counted = λ some. neither (is_held c.reach-found.result) some
+    counted = λ some. neither _ some
         (no_entry c.reach-found.result (sym c.if-not-has_entry-2.ensures));
     uncounted = λ _. refl;
-    entry = λ some. neither (is_shareable c.reach-found.result) some
-        (sym c.if-not-has_entry-2.ensures);
+    entry = λ some. neither _ some (sym c.if-not-has_entry-2.ensures);
     stray = λ _. refl;
   };
 }
@@ -93,7 +92,7 @@ returns-then-refs-eq0-2-clause-counts g c = record {
   seen = c.look_at-word.result;
   mid = c.look_at-word.new.seat;
   looks = (c.look_at-word.ensures.step, c.look_at-word.ensures.view, c.look_at-word.ensures.event);
-  unheld = λ none. neither (is_held c.look_at-word.result) held none;
+  unheld = λ none. neither _ held none;
   held = λ _. record {
     word = c.reach-found.result;
     mid = c.reach-found.new.seat;
@@ -103,7 +102,7 @@ returns-then-refs-eq0-2-clause-counts g c = record {
       corrects = c.reach-found.ensures.corrects;
       by = c.reach-found.ensures.by;
     };
-    counted = λ some. neither (is_held c.reach-found.result) some
+    counted = λ some. neither _ some
         (no_references c.reach-found.result (sym c.refs-2.ensures.field ∙ c.if-refs-eq0-2.true));
     uncounted = λ _. refl;
     entry = λ _. record {
@@ -115,8 +114,7 @@ returns-then-refs-eq0-2-clause-counts g c = record {
       subtracts = c.give_at.ensures.step;
       gives = c.give_at.ensures.event;
     };
-    stray = λ none. neither (is_shareable c.reach-found.result)
-        (sym c.if-not-has_entry-2.ensures) none;
+    stray = λ none. neither _ (sym c.if-not-has_entry-2.ensures) none;
   };
 }
   where
@@ -129,7 +127,7 @@ returns-clause-counts g c = record {
   seen = c.look_at-word.result;
   mid = c.look_at-word.new.seat;
   looks = (c.look_at-word.ensures.step, c.look_at-word.ensures.view, c.look_at-word.ensures.event);
-  unheld = λ none. neither (is_held c.look_at-word.result) held none;
+  unheld = λ none. neither _ held none;
   held = λ _. record {
     word = c.reach-found.result;
     mid = c.reach-found.new.seat;
@@ -143,8 +141,7 @@ returns-clause-counts g c = record {
         (λ e. c.read_at-charge.result ≡ e.charge) (charge_is (c.reach-found.ensures.view.got has).0
         (told_key looked c.reach-found.ensures.view has c.requires.fresh
         (λ e. IsDataWord e CHARGE c.read_at-charge.result) c.read_at-charge.ensures.word));
-    uncounted = λ none. neither (is_held c.reach-found.result)
-        (held_word c.reach-found.result (sym c.if-not-has_entry-2.ensures)
+    uncounted = λ none. neither _ (held_word c.reach-found.result (sym c.if-not-has_entry-2.ensures)
         (λ none. c.if-refs-eq0-2.false (c.refs-2.ensures.field ∙ none))) none;
     entry = λ _. record {
       word = c.read_at-charge.result;
@@ -155,8 +152,7 @@ returns-clause-counts g c = record {
       subtracts = c.give_at.ensures.step;
       gives = c.give_at.ensures.event;
     };
-    stray = λ none. neither (is_shareable c.reach-found.result)
-        (sym c.if-not-has_entry-2.ensures) none;
+    stray = λ none. neither _ (sym c.if-not-has_entry-2.ensures) none;
   };
 }
   where
@@ -185,5 +181,5 @@ returns-clause-seeks g c = counts_seek c.requires.fresh (returns-clause-counts g
 
 pub returns-then-not-has_entry-clause-seeks : goal.returns-then-not-has_entry-clause-seeks
 returns-then-not-has_entry-clause-seeks g c =
-    seeks_one c.args.table.now (look_done c.args.slot c.look_at-word.result (view c.args.seat.now))
-    c.args.seat.now c.look_at-word.new.seat c.look_at-word.ensures.event refl
+    seeks_one c.args.table.now _ c.args.seat.now c.look_at-word.new.seat
+    c.look_at-word.ensures.event refl

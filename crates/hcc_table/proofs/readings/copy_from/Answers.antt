@@ -12,8 +12,7 @@ loop-block-preserved g c =
       reads_words c.args.count 32 c.requires.within (omega arith) (omega arith)
           c.loop-block.invariant.0 told.seat told.view told.bytes,
       omega arith,
-      seeks_then c.args.table.now c.args.seat.now c.loop-block.seat c.copy_lines.new.seat
-          c.loop-block.invariant.2 told.seeks,
+      seeks_then c.args.table.now _ _ _ c.loop-block.invariant.2 told.seeks,
     )
 
 pub loop-part-preserved : goal.loop-part-preserved
@@ -27,8 +26,7 @@ loop-part-preserved g c =
       reads_words c.args.count 1 c.requires.within (omega arith) (omega arith)
           c.loop-part.invariant.0 told.seat told.view told.bytes,
       omega arith,
-      seeks_then c.args.table.now c.args.seat.now c.loop-part.seat c.copy_word.new.seat
-          c.loop-part.invariant.2 told.seeks,
+      seeks_then c.args.table.now _ _ _ c.loop-part.invariant.2 told.seeks,
     )
 
 pub loop-index-preserved : goal.loop-index-preserved
@@ -39,8 +37,7 @@ loop-index-preserved g c =
       reads_words c.args.count 1 c.requires.within (omega arith) (omega arith)
           c.loop-index.invariant.0 told.seat told.view told.bytes,
       omega arith,
-      seeks_then c.args.table.now c.args.seat.now c.loop-index.seat
-          c.copy_word-in-loop-index.new.seat c.loop-index.invariant.2 told.seeks,
+      seeks_then c.args.table.now _ _ _ c.loop-index.invariant.2 told.seeks,
     )
 
 pub returns-then-rest-gt0-clause-bytes : goal.returns-then-rest-gt0-clause-bytes
@@ -52,6 +49,5 @@ returns-then-rest-gt0-clause-bytes g c =
 
 pub returns-then-rest-gt0-clause-seeks : goal.returns-then-rest-gt0-clause-seeks
 returns-then-rest-gt0-clause-seeks g c =
-    seeks_then c.args.table.now c.args.seat.now c.loop-index.seat
-    c.copy_word-then-rest-gt0.new.seat c.loop-index.invariant.2
+    seeks_then c.args.table.now _ _ _ c.loop-index.invariant.2
     c.copy_word-then-rest-gt0.ensures.seeks

@@ -25,8 +25,7 @@ returns-clause-bytes g c =
 
 pub returns-clause-seeks : goal.returns-clause-seeks
 returns-clause-seeks g c =
-    seeks_then c.args.table.now c.args.seat.now c.copy_turn-4.new.seat c.copy_turn-8.new.seat
-    (seeks_four c.args.table.now c.copy_turn.ensures.seeks c.copy_turn-2.ensures.seeks
-    c.copy_turn-3.ensures.seeks c.copy_turn-4.ensures.seeks) (seeks_four c.args.table.now
-    c.copy_turn-5.ensures.seeks c.copy_turn-6.ensures.seeks c.copy_turn-7.ensures.seeks
-    c.copy_turn-8.ensures.seeks)
+    seeks_then c.args.table.now _ _ _ (seeks_four c.args.table.now c.copy_turn.ensures.seeks
+    c.copy_turn-2.ensures.seeks c.copy_turn-3.ensures.seeks c.copy_turn-4.ensures.seeks)
+    (seeks_four c.args.table.now c.copy_turn-5.ensures.seeks c.copy_turn-6.ensures.seeks
+    c.copy_turn-7.ensures.seeks c.copy_turn-8.ensures.seeks)

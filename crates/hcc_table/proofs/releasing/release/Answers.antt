@@ -24,8 +24,7 @@ returns-then-is_free_to_go-clause-tried g c =
       rw (← c.is_use-used.ensures) c.let_go-left.ensures.by,
       (
         (λ _. c.try_free.ensures.by),
-        (λ off. neither (has_room 1 (g.L.FreedList.shelf c.args.list.now)
-            && is_due (erases c.args.last) c.let_go-left.result) due off),
+        (λ off. neither _ due off),
       ),
     )
 
@@ -39,8 +38,7 @@ returns-else-is_free_to_go-clause-tried g c =
       not_due due refl refl,
       rw (← c.is_use-used.ensures) c.let_go-left.ensures.by,
       (
-        (λ on. neither (has_room 1 (g.L.FreedList.shelf c.args.list.now)
-            && is_due (erases c.args.last) c.let_go-left.result) on due),
+        (λ on. neither _ on due),
         (λ _. refl),
       ),
     )

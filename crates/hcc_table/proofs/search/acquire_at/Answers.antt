@@ -105,8 +105,7 @@ returns-then-not-is_shown-clause-passes g c = (
       c.look_at-seen.ensures.event,
     );
     unshown = λ _. (refl, refl, refl);
-    shown = λ shown. neither (is_visible c.look_at-seen.result) shown (sym
-        c.if-not-is_shown.ensures);
+    shown = λ shown. neither _ shown (sym c.if-not-is_shown.ensures);
   },
 )
 
@@ -121,8 +120,7 @@ returns-then-not-has_entry-clause-passes g c = (
       c.look_at-seen.ensures.view,
       c.look_at-seen.ensures.event,
     );
-    unshown = λ unseen. neither (is_visible c.look_at-seen.result) (sym c.if-not-is_shown.ensures)
-        unseen;
+    unshown = λ unseen. neither _ (sym c.if-not-is_shown.ensures) unseen;
     shown = λ _. record {
       mid = c.reach-found.new.seat;
       reaches = record {
@@ -137,10 +135,8 @@ returns-then-not-has_entry-clause-passes g c = (
         searched = rw still c.reach-found.ensures.view.searched;
         records = rw still (c.reach-found.ensures.view.stray stray);
       };
-      other = λ shown. neither (is_shareable c.reach-found.result)
-          (visible_has c.reach-found.result shown) stray;
-      loads = λ shown. neither (is_shareable c.reach-found.result)
-          (visible_has c.reach-found.result shown) stray;
+      other = λ shown. neither _ (visible_has c.reach-found.result shown) stray;
+      loads = λ shown. neither _ (visible_has c.reach-found.result shown) stray;
     };
   },
 )
@@ -162,8 +158,7 @@ returns-clause-passes g c = (
       c.look_at-seen.ensures.view,
       c.look_at-seen.ensures.event,
     );
-    unshown = λ unseen. neither (is_visible c.look_at-seen.result) (sym c.if-not-is_shown.ensures)
-        unseen;
+    unshown = λ unseen. neither _ (sym c.if-not-is_shown.ensures) unseen;
     shown = λ _. record {
       mid = c.reach-found.new.seat;
       reaches = record {
@@ -173,11 +168,8 @@ returns-clause-passes g c = (
         by = c.reach-found.ensures.by;
       };
       adds = unmarked_then c.matches.ensures.adds given;
-      seeks = seeks_then c.args.table.now c.reach-found.new.seat c.matches.new.seat
-          c.give_at.new.seat
-          c.matches.ensures.seeks (seeks_one c.args.table.now _ c.matches.new.seat
-          c.give_at.new.seat
-          c.give_at.ensures.event refl);
+      seeks = seeks_then c.args.table.now _ _ _ c.matches.ensures.seeks (seeks_one c.args.table.now
+          _ c.matches.new.seat c.give_at.new.seat c.give_at.ensures.event refl);
       kept = given_back (searched_refl (view c.look_at-seen.new.seat)) c.reach-found.ensures.view
           (sym c.if-not-has_entry.ensures) (rw c.look_at-seen.ensures.view c.requires.fresh)
           c.give_at.result c.matches.ensures.view c.give_at.ensures.view;

@@ -24,9 +24,7 @@ pub returns-in-Some-clause-found : goal.returns-in-Some-clause-found
 returns-in-Some-clause-found g c =
     let found = c.in-Some.ensures.found in (
       found.0,
-      found_then g.T.Tag.fits c.args.table.now.geometry.room c.slot-home.result c.args.name
-          c.args.key (view c.args.seat.now) (view c.args.seat.now) (view c.acquire_at.new.seat)
-          (view c.mark_if.new.seat) found.0 (searched_refl (view c.args.seat.now)) found.1
+      found_then _ _ _ _ _ _ _ _ _ found.0 (searched_refl (view c.args.seat.now)) found.1
           c.mark_if.ensures.view,
       found.2 ∙ sym c.is_counting.ensures,
     )
@@ -186,11 +184,8 @@ pub returns-in-Some-acquire_at-clause-found : goal.returns-in-Some-acquire_at-cl
 returns-in-Some-acquire_at-clause-found g c =
     let found = c.in-Some-acquire_at.ensures.found in (
       found.0,
-      found_then g.T.Tag.fits c.args.table.now.geometry.room c.slot-slot.result c.args.name
-          c.args.key
-          (view c.args.seat.now) (view c.loop-probe.seat) (view c.acquire_at-in-loop-probe.new.seat)
-          (view c.mark_if-in-Some-acquire_at.new.seat)
-          found.0 c.loop-probe.invariant.0.sought found.1 c.mark_if-in-Some-acquire_at.ensures.view,
+      found_then _ _ _ _ _ _ _ _ _ found.0 c.loop-probe.invariant.0.sought found.1
+          c.mark_if-in-Some-acquire_at.ensures.view,
       found.2 ∙ sym c.is_counting-in-Some-acquire_at.ensures,
     )
 

@@ -52,8 +52,7 @@ returns-in-None-clause-visit g c = by c.sweep.result c.sweep.ensures.visit
               c.args.seat.now c.look_at-word.new.seat c.sweep.new.seat
               c.look_at-word.ensures.step.step
               lost.2.step,
-          sought_then (view c.args.seat.now) (view c.look_at-word.new.seat) (view c.sweep.new.seat)
-              looked swept.1,
+          sought_then _ _ _ looked swept.1,
           search rules,
           search rules,
         )
