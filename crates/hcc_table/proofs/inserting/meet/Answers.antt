@@ -6,6 +6,7 @@ use Rattle.hcc_rule.specs.Seats.{atomic, view}
 use Rattle.hcc_table.specs.Steps.{Adds, AddsUnmarked}
 use Rattle.hcc_table.proofs.Logs.{adds_none, adds_one, adds_then, among_at, among_first, among_then, begins_adds, light, unmarked_adds, unmarked_none, unmarked_one, unmarked_then}
 use Rattle.hcc_rule.specs.Words.{key_of}
+use Rattle.hcc_table.proofs.Reaches.{all_reached}
 use Rattle.hcc_table.proofs.Searches.{searched_refl}
 use Rattle.hcc_table.proofs.Seeking.{seeks_none, seeks_one, seeks_then}
 use Rattle.hcc_table.proofs.Probes.{strayed, holds, holds_slot, holds_used, told_key, given_back, met_there, missed_there, on_told}
@@ -97,12 +98,8 @@ returns-then-matches-clause-uses g c _ = (
   c.reach-found.result,
   record {
     mid = c.reach-found.new.seat;
-    reaches = record {
-      reached = c.reach-found.ensures.view;
-      acquires = c.reach-found.ensures.acquires;
-      corrects = c.reach-found.ensures.corrects;
-      by = c.reach-found.ensures.by;
-    };
+    reaches = all_reached c.reach-found.ensures.view c.reach-found.ensures.acquires
+        c.reach-found.ensures.corrects c.reach-found.ensures.by;
     visible = c.matches.ensures.shown c.if-matches.true;
     same = on_told (searched_refl (view c.args.seat.now)) c.reach-found.ensures.view
         (sym c.if-not-has_entry.ensures) c.requires.fresh (λ e. key_of e ≡ c.args.key)
@@ -121,12 +118,8 @@ returns-then-not-has_entry-clause-passes g c _ = (
   c.reach-found.result,
   record {
     mid = c.reach-found.new.seat;
-    reaches = record {
-      reached = c.reach-found.ensures.view;
-      acquires = c.reach-found.ensures.acquires;
-      corrects = c.reach-found.ensures.corrects;
-      by = c.reach-found.ensures.by;
-    };
+    reaches = all_reached c.reach-found.ensures.view c.reach-found.ensures.acquires
+        c.reach-found.ensures.corrects c.reach-found.ensures.by;
     adds = unmarked_none refl;
     seeks = seeks_none c.args.table.now c.reach-found.new.seat;
     kept = returns-then-not-has_entry-clause-view g c;
@@ -142,12 +135,8 @@ returns-clause-passes g c _ = (
   c.reach-found.result,
   record {
     mid = c.reach-found.new.seat;
-    reaches = record {
-      reached = c.reach-found.ensures.view;
-      acquires = c.reach-found.ensures.acquires;
-      corrects = c.reach-found.ensures.corrects;
-      by = c.reach-found.ensures.by;
-    };
+    reaches = all_reached c.reach-found.ensures.view c.reach-found.ensures.acquires
+        c.reach-found.ensures.corrects c.reach-found.ensures.by;
     adds = unmarked_then c.matches.ensures.adds given;
     seeks = seeks_then c.args.table.now _ _ _ c.matches.ensures.seeks (seeks_one c.args.table.now _
         c.matches.new.seat c.give_at.new.seat c.give_at.ensures.event refl);

@@ -6,6 +6,7 @@ use Rattle.hcc_table.proofs.Keepings.{holds_more, holds_same, more, shown_word, 
 use Rattle.hcc_table.proofs.Logs.{light, unmarked_one, unmarked_then}
 use Rattle.hcc_table.proofs.Probes.{given_back, holds, holds_slot}
 use Rattle.hcc_table.proofs.Probings.{neither, visible_has}
+use Rattle.hcc_table.proofs.Reaches.{all_reached}
 use Rattle.hcc_table.proofs.Searches.{searched_refl}
 use Rattle.hcc_table.proofs.keeping.hold_shown.Goals as goal
 
@@ -17,12 +18,8 @@ pub returns-then-not-has_entry-clause-holds : goal.returns-then-not-has_entry-cl
 returns-then-not-has_entry-clause-holds g c = record {
   word = c.reach-found.result;
   mid = c.reach-found.new.seat;
-  reaches = record {
-    reached = c.reach-found.ensures.view;
-    acquires = c.reach-found.ensures.acquires;
-    corrects = c.reach-found.ensures.corrects;
-    by = c.reach-found.ensures.by;
-  };
+  reaches = all_reached c.reach-found.ensures.view c.reach-found.ensures.acquires
+      c.reach-found.ensures.corrects c.reach-found.ensures.by;
   shown = λ shown. neither _ (visible_has c.reach-found.result shown)
       (sym c.if-not-has_entry.ensures);
   unshown = λ _. refl;
@@ -46,12 +43,8 @@ pub returns-then-not-is_shown-clause-holds : goal.returns-then-not-is_shown-clau
 returns-then-not-is_shown-clause-holds g c = record {
   word = c.reach-found.result;
   mid = c.reach-found.new.seat;
-  reaches = record {
-    reached = c.reach-found.ensures.view;
-    acquires = c.reach-found.ensures.acquires;
-    corrects = c.reach-found.ensures.corrects;
-    by = c.reach-found.ensures.by;
-  };
+  reaches = all_reached c.reach-found.ensures.view c.reach-found.ensures.acquires
+      c.reach-found.ensures.corrects c.reach-found.ensures.by;
   shown = λ shown. neither _ shown (sym c.if-not-is_shown.ensures);
   unshown = λ _. refl;
   hidden = λ _. (c.give_at.result, c.give_at.ensures.step, c.give_at.ensures.event);
@@ -75,12 +68,8 @@ pub returns-clause-holds : goal.returns-clause-holds
 returns-clause-holds g c = record {
   word = c.reach-found.result;
   mid = c.reach-found.new.seat;
-  reaches = record {
-    reached = c.reach-found.ensures.view;
-    acquires = c.reach-found.ensures.acquires;
-    corrects = c.reach-found.ensures.corrects;
-    by = c.reach-found.ensures.by;
-  };
+  reaches = all_reached c.reach-found.ensures.view c.reach-found.ensures.acquires
+      c.reach-found.ensures.corrects c.reach-found.ensures.by;
   shown = λ _. (
     rw c.is_counting.ensures refl,
     refl,

@@ -9,6 +9,7 @@ use Rattle.hcc_table.proofs.Pinnings.{no_entry, no_references, charge_is, charge
 use Rattle.hcc_table.specs.Searched.{Sought}
 use Rattle.hcc_table.proofs.Probes.{looked_at, holds, holds_slot, given_back, on_entry, one_entry, told_key}
 use Rattle.hcc_table.proofs.Probings.{neither}
+use Rattle.hcc_table.proofs.Reaches.{all_reached}
 use Rattle.hcc_table.proofs.Searches.{read_there, searched_refl}
 use Rattle.hcc_table.proofs.Seeking.{seeks_one}
 use Rattle.hcc_table.proofs.pinning.pinned_charge.Goals as goal
@@ -69,12 +70,8 @@ returns-then-not-has_entry-2-clause-counts g c = record {
   held = λ _. record {
     word = c.reach-found.result;
     mid = c.reach-found.new.seat;
-    reaches = record {
-      reached = c.reach-found.ensures.view;
-      acquires = c.reach-found.ensures.acquires;
-      corrects = c.reach-found.ensures.corrects;
-      by = c.reach-found.ensures.by;
-    };
+    reaches = all_reached c.reach-found.ensures.view c.reach-found.ensures.acquires
+        c.reach-found.ensures.corrects c.reach-found.ensures.by;
     counted = λ some. neither _ some
         (no_entry c.reach-found.result (sym c.if-not-has_entry-2.ensures));
     uncounted = λ _. refl;
@@ -96,12 +93,8 @@ returns-then-refs-eq0-2-clause-counts g c = record {
   held = λ _. record {
     word = c.reach-found.result;
     mid = c.reach-found.new.seat;
-    reaches = record {
-      reached = c.reach-found.ensures.view;
-      acquires = c.reach-found.ensures.acquires;
-      corrects = c.reach-found.ensures.corrects;
-      by = c.reach-found.ensures.by;
-    };
+    reaches = all_reached c.reach-found.ensures.view c.reach-found.ensures.acquires
+        c.reach-found.ensures.corrects c.reach-found.ensures.by;
     counted = λ some. neither _ some
         (no_references c.reach-found.result (sym c.refs-2.ensures.field ∙ c.if-refs-eq0-2.true));
     uncounted = λ _. refl;
@@ -131,12 +124,8 @@ returns-clause-counts g c = record {
   held = λ _. record {
     word = c.reach-found.result;
     mid = c.reach-found.new.seat;
-    reaches = record {
-      reached = c.reach-found.ensures.view;
-      acquires = c.reach-found.ensures.acquires;
-      corrects = c.reach-found.ensures.corrects;
-      by = c.reach-found.ensures.by;
-    };
+    reaches = all_reached c.reach-found.ensures.view c.reach-found.ensures.acquires
+        c.reach-found.ensures.corrects c.reach-found.ensures.by;
     counted = λ _. on_entry looked c.reach-found.ensures.view has c.requires.fresh
         (λ e. c.read_at-charge.result ≡ e.charge) (charge_is (c.reach-found.ensures.view.got has).0
         (told_key looked c.reach-found.ensures.view has c.requires.fresh

@@ -8,6 +8,7 @@ use Rattle.hcc_table.specs.Steps.{AddsUnmarked}
 use Rattle.hcc_table.proofs.Logs.{adds_one, among_after, among_first, among_then, light, unmarked_adds, unmarked_one, unmarked_then, unmarked_zero}
 use Rattle.hcc_table.proofs.Probes.{looked_at, buried_by_look, given_back, strayed, holds, holds_slot, told_key, missed_there, found_there, got_record, on_told}
 use Rattle.hcc_table.proofs.Probings.{neither, other_then, stray_unshown, visible_has}
+use Rattle.hcc_table.proofs.Reaches.{all_reached}
 use Rattle.hcc_table.proofs.Searches.{searched_refl}
 use Rattle.hcc_table.proofs.Seeking.{seeks_one, seeks_then}
 use Rattle.hcc_table.proofs.search.acquire_at.Goals as goal
@@ -123,12 +124,8 @@ returns-then-not-has_entry-clause-passes g c = (
     unshown = λ unseen. neither _ (sym c.if-not-is_shown.ensures) unseen;
     shown = λ _. record {
       mid = c.reach-found.new.seat;
-      reaches = record {
-        reached = c.reach-found.ensures.view;
-        acquires = c.reach-found.ensures.acquires;
-        corrects = c.reach-found.ensures.corrects;
-        by = c.reach-found.ensures.by;
-      };
+      reaches = all_reached c.reach-found.ensures.view c.reach-found.ensures.acquires
+          c.reach-found.ensures.corrects c.reach-found.ensures.by;
       adds = c.matches.ensures.adds;
       seeks = c.matches.ensures.seeks;
       kept = record {
@@ -161,12 +158,8 @@ returns-clause-passes g c = (
     unshown = λ unseen. neither _ (sym c.if-not-is_shown.ensures) unseen;
     shown = λ _. record {
       mid = c.reach-found.new.seat;
-      reaches = record {
-        reached = c.reach-found.ensures.view;
-        acquires = c.reach-found.ensures.acquires;
-        corrects = c.reach-found.ensures.corrects;
-        by = c.reach-found.ensures.by;
-      };
+      reaches = all_reached c.reach-found.ensures.view c.reach-found.ensures.acquires
+          c.reach-found.ensures.corrects c.reach-found.ensures.by;
       adds = unmarked_then c.matches.ensures.adds given;
       seeks = seeks_then c.args.table.now _ _ _ c.matches.ensures.seeks (seeks_one c.args.table.now
           _ c.matches.new.seat c.give_at.new.seat c.give_at.ensures.event refl);
@@ -198,12 +191,8 @@ returns-then-matches-clause-catches g c = record {
   first = (c.look_at-seen.ensures.step, c.look_at-seen.ensures.view, c.look_at-seen.ensures.event);
   shown = sym c.if-not-is_shown.ensures;
   mid = c.reach-found.new.seat;
-  reaches = record {
-    reached = c.reach-found.ensures.view;
-    acquires = c.reach-found.ensures.acquires;
-    corrects = c.reach-found.ensures.corrects;
-    by = c.reach-found.ensures.by;
-  };
+  reaches = all_reached c.reach-found.ensures.view c.reach-found.ensures.acquires
+      c.reach-found.ensures.corrects c.reach-found.ensures.by;
   visible = c.matches.ensures.shown c.if-matches.true;
   same = on_told looked c.reach-found.ensures.view has c.requires.fresh (λ e. key_of e ≡ c.args.key)
       (c.matches.ensures.equal c.if-matches.true);
