@@ -23,7 +23,7 @@ use Rattle.hcc_rule.specs.declared.key.Key.{Key}
 use Rattle.hcc_rule.specs.declared.table.RuleTable.{RuleTable}
 use Rattle.hcc_rule.specs.Acts.{events_of, past}
 use Rattle.hcc_rule.specs.Callers.{clients_of, plan_of, slots_of, world_at}
-use Rattle.hcc_rule.specs.Events.{occupy_done, pass_done, phase_in}
+use Rattle.hcc_rule.specs.Events.{phase_in}
 use Rattle.hcc_rule.specs.Opening.{begun_world}
 use Rattle.hcc_rule.specs.Probes.{probe_slot}
 use Rattle.hcc_rule.specs.Rule.{setup_of}

@@ -20,9 +20,9 @@ use Rattle.hcc_rule.specs.declared.table.RuleTable.{RuleTable}
 use Rattle.hcc_rule.specs.declared.view.Record.{Record}
 use Rattle.hcc_rule.specs.declared.view.View.{View}
 use Rattle.hcc_rule.specs.Addresses.{address_of_meta}
-use Rattle.hcc_rule.specs.Acts.{did, events_of, past, world_of}
+use Rattle.hcc_rule.specs.Acts.{events_of, past, world_of}
 use Rattle.hcc_rule.specs.Callers.{IsEvent, clients_of, plan_of, slots_of, world_at}
-use Rattle.hcc_rule.specs.Events.{count_done, give_done, hide_done, look_done}
+use Rattle.hcc_rule.specs.Events.{count_done, give_done, hide_done}
 use Rattle.hcc_rule.specs.Opening.{begun_world}
 use Rattle.hcc_rule.specs.Probes.{probe_slot}
 use Rattle.hcc_rule.specs.Records.{record_in}

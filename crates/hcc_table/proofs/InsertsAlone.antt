@@ -12,7 +12,7 @@ use Rattle.hcc_rule.specs.declared.key.Key.{Key}
 use Rattle.hcc_rule.specs.declared.table.RuleTable.{RuleTable}
 use Rattle.hcc_rule.specs.Acts.{Leads, events_of, past, world_of}
 use Rattle.hcc_rule.specs.Callers.{IsEvent, clients_of, plan_of, slots_of, world_at}
-use Rattle.hcc_rule.specs.Events.{acquire_done, give_done, occupy_done, pass_done, show_done, spend_done}
+use Rattle.hcc_rule.specs.Events.{acquire_done}
 use Rattle.hcc_rule.specs.Opening.{begun_world}
 use Rattle.hcc_rule.specs.Probes.{probe_slot}
 use Rattle.hcc_rule.specs.Seats.{SeatOf, view}

@@ -20,7 +20,7 @@ use Rattle.hcc_rule.specs.declared.table.RuleTable.{RuleTable}
 use Rattle.hcc_rule.specs.declared.view.Record.{Record}
 use Rattle.hcc_rule.specs.Acts.{Leads}
 use Rattle.hcc_rule.specs.Callers.{clients_of, world_at}
-use Rattle.hcc_rule.specs.Events.{acquire_done, give_done, look_done}
+use Rattle.hcc_rule.specs.Events.{acquire_done}
 use Rattle.hcc_rule.specs.Records.{record_in}
 use Rattle.hcc_rule.specs.Seats.{SeatOf, view}
 use Rattle.hcc_table.specs.declared.efforts.Effort.{Effort}
@@ -28,7 +28,7 @@ use Rattle.hcc_table.specs.declared.keeping.AtSlot.{AtSlot}
 use Rattle.hcc_table.specs.declared.keeping.AtSlot.TheVariants.{Nothing, Held, Freed}
 use Rattle.hcc_table.specs.declared.pins.Pin.{Pin}
 use Rattle.hcc_table.specs.AtSlots.{Frees, HoldsShown, IsShownBy, PinsAt, PinsLasting, ShowsNoneOnce, TakesUnheld, freed_there}
-use Rattle.hcc_table.specs.Freed.{TakesByWhereDue, free_event, is_due}
+use Rattle.hcc_table.specs.Freed.{TakesByWhereDue, is_due}
 use Rattle.hcc_table.specs.Seeking.{Seeks}
 use Rattle.hcc_table.specs.Standing.{IsMomentOf, ShowsOnce, ShowsSame, shown_at}
 use Rattle.hcc_table.proofs.Lasting.{alone_shows, looks_led, looks_seek, met_there, moment_shows, reached_seeks}

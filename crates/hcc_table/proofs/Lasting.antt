@@ -18,7 +18,7 @@ use Rattle.hcc_rule.specs.declared.view.Record.{Record}
 use Rattle.hcc_rule.specs.declared.view.View.{View}
 use Rattle.hcc_rule.specs.Acts.{Leads, did, past, world_of}
 use Rattle.hcc_rule.specs.Callers.{IsEvent, clients_of, plan_of, slots_of, world_at}
-use Rattle.hcc_rule.specs.Events.{acquire_done, correct_done, count_done, look_done, mark_done}
+use Rattle.hcc_rule.specs.Events.{acquire_done, correct_done, count_done, look_done}
 use Rattle.hcc_rule.specs.Opening.{begun_world}
 use Rattle.hcc_rule.specs.Probes.{probe_slot}
 use Rattle.hcc_rule.specs.Records.{record_in}

@@ -15,9 +15,8 @@ use Rattle.hcc_core.specs.World.{State}
 use Rattle.hcc_core.proofs.Keeps.{found_ok, live_ok}
 use Rattle.hcc_core.proofs.ListLemmas.{read_here, read_other}
 use Rattle.hcc_rule.specs.declared.table.RuleTable.{RuleTable}
-use Rattle.hcc_rule.specs.Acts.{did, events_of, past, world_of}
+use Rattle.hcc_rule.specs.Acts.{events_of, past, world_of}
 use Rattle.hcc_rule.specs.Callers.{IsEvent, clients_of, plan_of, world_at}
-use Rattle.hcc_rule.specs.Events.{give_done, look_done, spend_done}
 use Rattle.hcc_rule.specs.Opening.{begun_world}
 use Rattle.hcc_rule.specs.Seats.{SeatOf, view}
 use Rattle.hcc_rule.proofs.Seats.Histories.{after_more}

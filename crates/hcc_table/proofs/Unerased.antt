@@ -26,7 +26,7 @@ use Rattle.hcc_rule.specs.declared.table.RuleTable.{RuleTable}
 use Rattle.hcc_rule.specs.declared.view.Record.{Record}
 use Rattle.hcc_rule.specs.Acts.{events_of, past}
 use Rattle.hcc_rule.specs.Callers.{IsEvent, clients_of, plan_of, world_at}
-use Rattle.hcc_rule.specs.Events.{give_done, phase_in, spend_done}
+use Rattle.hcc_rule.specs.Events.{phase_in}
 use Rattle.hcc_rule.specs.Records.{record_in}
 use Rattle.hcc_rule.specs.Seats.{SeatOf, view}
 use Rattle.hcc_rule.proofs.Seats.Runs.{run_finds}

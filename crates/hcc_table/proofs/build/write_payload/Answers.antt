@@ -1,5 +1,4 @@
-use Rattle.std.proofs.Common.{◌≡◌, ◌+◌, ◌/◌, ◌∙◌, ap, arith, length, refl}
-use Rattle.hcc_rule.specs.Callers.{id_of, plan_of}
+use Rattle.std.proofs.Common.{◌≡◌, ◌/◌, ◌∙◌, ap, arith, length, refl}
 use Rattle.hcc_rule.specs.Words.{payload_word}
 use Rattle.hcc_table.proofs.Logs.{adds_none, adds_one, adds_then}
 use Rattle.hcc_table.specs.Seeking.{is_write}

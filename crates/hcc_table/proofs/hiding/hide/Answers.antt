@@ -2,7 +2,7 @@ use Rattle.std.proofs.Common.{◌≡◌, ℕ, ◌+◌, ◌*◌, ◌<◌, ◌≤�
 use Rattle.std.proofs.Math.Nat.{mul-le-mul_left}
 use Rattle.hcc_rule.specs.declared.view.View.{View}
 use Rattle.hcc_table.specs.Efforts.{Took}
-use Rattle.hcc_table.specs.Lists.{as_freed, has_room}
+use Rattle.hcc_table.specs.Lists.{as_freed}
 use Rattle.hcc_table.proofs.Handed.{hands_alike, hands_more, hands_none, room_before}
 use Rattle.hcc_table.proofs.Rises.{took_none, took_next, took_within}
 use Rattle.hcc_rule.proofs.Probes.ProbeLaws.{some_slots}

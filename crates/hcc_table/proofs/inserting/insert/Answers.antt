@@ -11,7 +11,6 @@ use Rattle.hcc_table.proofs.Seeking.{goes_none}
 use Rattle.hcc_table.proofs.Logs.{adds_none, adds_one, adds_then, among_after, among_then, ends_later}
 use Rattle.hcc_table.proofs.Rises.{took_none, took_next, took_within}
 use Rattle.hcc_rule.specs.declared.view.View.{View}
-use Rattle.hcc_table.specs.declared.inserting.Insertion.TheVariants.{Placed, Matched, NoSlot}
 use Rattle.hcc_table.proofs.InsertsSteps.{inserts_here, tried_none, tried_then}
 use Rattle.hcc_table.proofs.InsertsTries.{tries_first, probed_long, tries_placed, tries_matched, tries_last, tries_next}
 use Rattle.hcc_table.proofs.inserting.insert.Goals as goal

@@ -1,5 +1,5 @@
 use Rattle.std.proofs.Common.{◌≡◌, ◌+◌, ◌++◌, [], ◌∷◌, true, refl, sym, ap, ◌∙◌}
-use Rattle.hcc_word.specs.Word.{is_empty, is_visible}
+use Rattle.hcc_word.specs.Word.{is_empty}
 use Rattle.hcc_rule.specs.ToldOwners.{made_of}
 use Rattle.hcc_table.specs.Steps.{Adds}
 use Rattle.hcc_table.proofs.Logs.{adds_one, adds_then, among_after, begins_then, ends_adds}

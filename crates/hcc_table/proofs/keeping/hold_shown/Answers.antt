@@ -1,6 +1,4 @@
 use Rattle.std.proofs.Common.{refl, sym, arith}
-use Rattle.hcc_word.specs.Word.{is_shareable, is_visible}
-use Rattle.hcc_rule.specs.Looked.{is_hidden}
 use Rattle.hcc_rule.specs.Seats.{view}
 use Rattle.hcc_table.proofs.Keepings.{holds_more, holds_same, more, shown_word, stray_word}
 use Rattle.hcc_table.proofs.Logs.{light, unmarked_one, unmarked_then}

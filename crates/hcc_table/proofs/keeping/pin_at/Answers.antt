@@ -1,5 +1,4 @@
-use Rattle.std.proofs.Common.{[], refl, sym, ap, ◌∙◌}
-use Rattle.hcc_word.specs.Word.{is_visible}
+use Rattle.std.proofs.Common.{refl, sym, ap, ◌∙◌}
 use Rattle.hcc_rule.specs.declared.view.View.{View}
 use Rattle.hcc_rule.specs.Seats.{view}
 use Rattle.hcc_table.specs.declared.keeping.AtSlot.TheVariants.{Nothing, Held}

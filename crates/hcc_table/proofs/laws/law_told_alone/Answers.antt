@@ -1,5 +1,4 @@
 use Rattle.hcc_rule.specs.Callers.{world_at}
-use Rattle.hcc_rule.specs.Events.{occupancy_done, usage_done}
 use Rattle.hcc_rule.specs.Seats.{view}
 use Rattle.hcc_table.proofs.Alone.{event_alone, occupancy_tells, usage_tells}
 use Rattle.hcc_table.proofs.laws.law_told_alone.Goals as goal

@@ -5,7 +5,6 @@ use Rattle.hcc_core.specs.Lawful.{is_in}
 use Rattle.hcc_core.specs.Runs.{entry_at}
 use Rattle.hcc_rule.specs.declared.view.View.{View}
 use Rattle.hcc_rule.specs.Callers.{plan_of, room_of, world_at}
-use Rattle.hcc_rule.specs.Events.{peek_done}
 use Rattle.hcc_rule.specs.Seats.{SeatOf, made, view}
 use Rattle.hcc_rule.specs.ToldGlimpses.{IsRightEntry}
 use Rattle.hcc_rule.specs.Words.{words_for}

@@ -1,4 +1,4 @@
-use Rattle.std.proofs.Common.{◌+◌, ◌-◌, ◌*◌, ◌/◌, arith}
+use Rattle.std.proofs.Common.{◌-◌, arith}
 use Rattle.hcc_rule.specs.Seats.{view}
 use Rattle.hcc_rule.specs.Records.{record_in}
 use Rattle.hcc_table.proofs.Offsets.{across, part_joined, part_within}

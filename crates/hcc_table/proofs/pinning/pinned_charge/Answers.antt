@@ -1,5 +1,4 @@
 use Rattle.std.proofs.Common.{◌≡◌, true, refl, sym, ◌∙◌}
-use Rattle.hcc_rule.specs.Events.{look_done}
 use Rattle.hcc_rule.specs.Seats.{view}
 use Rattle.hcc_rule.specs.declared.layout.TheConstants.{CHARGE}
 use Rattle.hcc_rule.specs.ToldOwners.{IsDataWord}

@@ -1,5 +1,5 @@
 use Rattle.std.proofs.Common.{◌≡◌, false, true, refl, sym, arith}
-use Rattle.hcc_word.specs.Word.{is_shareable, is_visible}
+use Rattle.hcc_word.specs.Word.{is_shareable}
 use Rattle.hcc_rule.specs.Addresses.{address_of_meta}
 use Rattle.hcc_rule.specs.Seats.{atomic, view}
 use Rattle.hcc_rule.specs.Words.{key_of}

@@ -1,4 +1,4 @@
-use Rattle.std.proofs.Common.{◌≡◌, ◌*◌, ◌+◌, ◌/◌, ◌%◌, ◌<◌, refl, arith}
+use Rattle.std.proofs.Common.{◌≡◌, ◌*◌, ◌/◌, ◌%◌, ◌<◌, refl, arith}
 use Rattle.hcc_table.proofs.Unpackings.{unpacks, all_unpacked}
 use Rattle.hcc_table.proofs.unpacking.unpack.Goals as goal
 
