@@ -20,7 +20,7 @@ use Rattle.hcc_rule.specs.Rule.{IsRight}
 use Rattle.hcc_table.specs.Erased.{Erases, IsAtRest, IsErased}
 use Rattle.hcc_table.specs.Freed.{IsFreed}
 use Rattle.hcc_table.specs.Searched.{Searched, IsFound, Buried, Sought, is_key, times_met}
-use Rattle.hcc_table.proofs.Searches.{grows_joined, no_more}
+use Rattle.hcc_table.proofs.Searches.{grows_joined, met_then, no_more}
 use Rattle.hcc_table.proofs.Reaches.{joined_in}
 use Rattle.std.proofs.lemmas.Bool.{eq-eqb}
 use Rattle.std.proofs.lemmas.List.{append-nil}
@@ -63,7 +63,7 @@ module _ {T : Type 0} where
       → IsAtRest w
   rests e = (ap (λ (z : View T). z.work.owned) e.same, ap (λ (z : View T). z.work.trail) e.same)
 
-  -- One append_assoc another erases both.
+  -- One after another erases both.
   pub erases_then : {keys more : List Key} {slots other charge plus : ℕ} {u v w : View T}
       → Erases keys slots charge u v
       → Erases more other plus v w → Erases (keys ++ more) (slots + other) (charge + plus) u w
@@ -103,18 +103,14 @@ module _ {T : Type 0} where
           glimpse = w.glimpse;
         }));
     dead = λ stamp h. b.dead stamp (a.dead stamp h);
-    met = (
-      a.met.0 ++ b.met.0,
-      b.met.1
-          ∙ (ap (λ z. z ++ b.met.0) a.met.1 ∙ append_assoc u.met a.met.0 b.met.0),
-    );
+    met = met_then u.met a.met b.met;
     taken = takes_more a.taken b.taken;
   }
     where
       sums : (a b c : ℕ) → a + b + c ≡ a + (b + c)
       sums a b c = omega arith
 
-  -- A search before it, or append_assoc it, erases no more.
+  -- A search before it, or after it, erases no more.
   pub erases_first : {keys : List Key} {slots charge : ℕ} {u v w : View T} → Searched u v
       → Erases keys slots charge v w
       → Erases keys slots charge u w
@@ -137,11 +133,7 @@ module _ {T : Type 0} where
       glimpse = w.glimpse;
     }) a.same;
     dead = λ stamp h. b.dead stamp (a.dead stamp h);
-    met = (
-      a.met.0 ++ b.met.0,
-      b.met.1
-          ∙ (ap (λ z. z ++ b.met.0) a.met.1 ∙ append_assoc u.met a.met.0 b.met.0),
-    );
+    met = met_then u.met a.met b.met;
     taken = takes_alike b.taken (sym (ap (λ (z : View T). z.gone) a.same)) refl;
   }
 
@@ -173,11 +165,7 @@ module _ {T : Type 0} where
           glimpse = w.glimpse;
         }));
     dead = λ stamp h. b.dead stamp (a.dead stamp h);
-    met = (
-      a.met.0 ++ b.met.0,
-      b.met.1
-          ∙ (ap (λ z. z ++ b.met.0) a.met.1 ∙ append_assoc u.met a.met.0 b.met.0),
-    );
+    met = met_then u.met a.met b.met;
     taken = takes_alike a.taken refl (ap (λ (z : View T). z.gone) b.same);
   }
 

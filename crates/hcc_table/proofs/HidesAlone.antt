@@ -12,7 +12,7 @@ use Rattle.hcc_core.specs.declared.slot.Entry.{Entry}
 use Rattle.hcc_core.specs.declared.slot.Slot.{Slot}
 use Rattle.hcc_core.specs.declared.slot.Slot.TheVariants as slots
 use Rattle.hcc_core.specs.declared.slot.Stamp.{Stamp}
-use Rattle.hcc_core.specs.Runs.{FindsOne, after_all, held_at}
+use Rattle.hcc_core.specs.Runs.{FindsOne, held_at}
 use Rattle.hcc_core.specs.Sums.{total, when}
 use Rattle.hcc_core.specs.World.{State}
 use Rattle.hcc_rule.specs.declared.key.Key.{Key}
@@ -20,10 +20,9 @@ use Rattle.hcc_rule.specs.declared.table.RuleTable.{RuleTable}
 use Rattle.hcc_rule.specs.declared.view.Record.{Record}
 use Rattle.hcc_rule.specs.declared.view.View.{View}
 use Rattle.hcc_rule.specs.Addresses.{address_of_meta}
-use Rattle.hcc_rule.specs.Acts.{events_of, past, world_of}
+use Rattle.hcc_rule.specs.Acts.{events_of, past}
 use Rattle.hcc_rule.specs.Callers.{IsEvent, clients_of, plan_of, slots_of, world_at}
 use Rattle.hcc_rule.specs.Events.{count_done, give_done, hide_done}
-use Rattle.hcc_rule.specs.Opening.{begun_world}
 use Rattle.hcc_rule.specs.Probes.{probe_slot}
 use Rattle.hcc_rule.specs.Records.{record_in}
 use Rattle.hcc_rule.specs.Seats.{SeatOf, Makes, view}
@@ -31,7 +30,6 @@ use Rattle.hcc_rule.specs.ToldReferences.{after_hide}
 use Rattle.hcc_rule.specs.Words.{key_of}
 use Rattle.hcc_rule.proofs.Basics.Lists.{within}
 use Rattle.hcc_rule.proofs.Probes.ProbeLaws.{probe_inside, probe_of_slot, some_slots}
-use Rattle.hcc_rule.proofs.Seats.Histories.{after_more}
 use Rattle.hcc_rule.proofs.Seats.Runs.{run_finds}
 use Rattle.hcc_table.specs.declared.efforts.Effort.{Effort}
 use Rattle.hcc_table.specs.declared.hiding.Erased.{Erased}
@@ -48,7 +46,7 @@ use Rattle.hcc_table.proofs.Probings.{one_longer}
 use Rattle.hcc_table.proofs.Seeking.{seeks_none, seeks_one, seeks_then}
 use Rattle.hcc_table.proofs.Setups.{slots_at}
 use Rattle.hcc_table.proofs.Shown.{count_tells, shown_counted}
-use Rattle.hcc_table.proofs.Unshown.{KeepsOwned, empty_tells, free_tells, hide_tells, owned_at, settling_keeps, unpasses_keep}
+use Rattle.hcc_table.proofs.Unshown.{KeepsOwned, empty_tells, free_tells, goes_keep, hide_tells, owned_at, settling_after, unpass_after}
 
 -- Keys.
 
@@ -201,25 +199,14 @@ module _ {T A : Type 0} (table : RuleTable T A) (one : clients_of table ≡ 1) w
           free_tells (world_at table a) (world_at table took) (view a).client slot charge name
           (event_alone table one _ a took event) none
 
-      led : world_at table mid
-          ≡ after_all (world_at table took) (events_of empties.1.more)
-      led =
-          ap (world_of (plan_of table)) empties.1.goes_on
-          ∙ after_more (past took) empties.1.more (begun_world (plan_of table))
-
       kept : KeepsOwned (world_at table took) (world_at table mid)
-      kept =
-          subst (KeepsOwned (world_at table took)) (sym led)
-          (unpasses_keep empties.1.more (empties.1.alone one) (world_at table took))
+      kept = goes_keep unpass_after one empties.1
 
   -- What settles changes nothing of what is shown.
   pub settled_keeps : (a b : SeatOf T) → GoesOnBy table is_settling a b → (s : ℕ)
       → shown_at (world_at table b) s ≡ shown_at (world_at table a) s
   settled_keeps a b h s =
-      ap (λ ds. shown_at (world_of (plan_of table) ds) s) h.goes_on
-      ∙ ap (λ w. shown_at w s) (after_more (past a) h.more (begun_world (plan_of table)))
-      ∙ ap (λ xs. option_and_then entry_shown (slice_get xs s))
-      (settling_keeps h.more (h.alone one) (world_at table a)).0
+      ap (λ xs. option_and_then entry_shown (slice_get xs s)) (goes_keep settling_after one h).0
 
   -- To try to take an entry that isn't shown changes nothing of what is.
   takes_keep : {slot word : ℕ} {name : Option ℕ} (due : Bool) (freed : Option ℕ) {a b : SeatOf T}

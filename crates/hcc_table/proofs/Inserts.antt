@@ -1,5 +1,5 @@
 -- What the tries of slots leave of a view, put together.
-use Rattle.std.proofs.Common.{◌≡◌, ℕ, ◌+◌, ◌++◌, false, true, List, [], ◌∷◌, sym, refl, ap, ◌∙◌, append_assoc, arith}
+use Rattle.std.proofs.Common.{◌≡◌, ℕ, ◌+◌, ◌++◌, false, true, List, [], ◌∷◌, sym, refl, ap, ◌∙◌, arith}
 use Rattle.hcc_word.specs.Word.{is_empty, is_visible}
 use Rattle.hcc_core.specs.declared.client.Owned.TheVariants as owned
 use Rattle.hcc_rule.specs.declared.key.Key.{Key}
@@ -10,7 +10,7 @@ use Rattle.hcc_rule.specs.ToldOwners.{after_occupy, after_show, made_of}
 use Rattle.hcc_rule.specs.ToldTrails.{after_pass}
 use Rattle.hcc_table.specs.Inserted.{Tried, with_trail}
 use Rattle.hcc_table.specs.Searched.{Buried, Sought}
-use Rattle.hcc_table.proofs.Searches.{grows_joined, no_more}
+use Rattle.hcc_table.proofs.Searches.{grows_joined, met_then, no_more}
 use Rattle.hcc_table.proofs.Probes.{buried_by_dead}
 
 module _ {T : Type 0} where
@@ -33,11 +33,7 @@ module _ {T : Type 0} where
           saw = w.saw;
         }) a.same;
     dead = λ stamp h. b.dead stamp (a.dead stamp h);
-    met = (
-      a.met.0 ++ b.met.0,
-      b.met.1
-          ∙ (ap (λ z. z ++ b.met.0) a.met.1 ∙ append_assoc u.met a.met.0 b.met.0),
-    );
+    met = met_then u.met a.met b.met;
     saw = omega (arith, a.saw, b.saw);
   }
 

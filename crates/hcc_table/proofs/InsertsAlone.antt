@@ -6,19 +6,16 @@ use Rattle.hcc_word.specs.Word.{is_counting, is_visible}
 use Rattle.hcc_core.specs.declared.client.Owned.TheVariants as owned
 use Rattle.hcc_core.specs.declared.slot.Entry.{Entry}
 use Rattle.hcc_core.specs.declared.slot.Slot.{Slot}
-use Rattle.hcc_core.specs.Runs.{after_all}
 use Rattle.hcc_core.specs.World.{State}
 use Rattle.hcc_rule.specs.declared.key.Key.{Key}
 use Rattle.hcc_rule.specs.declared.table.RuleTable.{RuleTable}
-use Rattle.hcc_rule.specs.Acts.{Leads, events_of, past, world_of}
-use Rattle.hcc_rule.specs.Callers.{IsEvent, clients_of, plan_of, slots_of, world_at}
+use Rattle.hcc_rule.specs.Acts.{Leads}
+use Rattle.hcc_rule.specs.Callers.{IsEvent, clients_of, slots_of, world_at}
 use Rattle.hcc_rule.specs.Events.{acquire_done}
-use Rattle.hcc_rule.specs.Opening.{begun_world}
 use Rattle.hcc_rule.specs.Probes.{probe_slot}
 use Rattle.hcc_rule.specs.Seats.{SeatOf, view}
 use Rattle.hcc_rule.specs.Words.{key_of}
 use Rattle.hcc_rule.proofs.Probes.ProbeLaws.{probe_inside, probe_of_slot, some_slots}
-use Rattle.hcc_rule.proofs.Seats.Histories.{after_more}
 use Rattle.hcc_table.specs.declared.efforts.Effort.{Effort}
 use Rattle.hcc_table.specs.declared.inserting.Insertion.{Insertion}
 use Rattle.hcc_table.specs.declared.inserting.Insertion.TheVariants.{Placed, Matched, NoSlot}
@@ -30,10 +27,10 @@ use Rattle.hcc_table.specs.Tries.{Inserts, MatchesAt, PassesTaken, ShowsBy, Uses
 use Rattle.hcc_table.proofs.Alone.{event_alone}
 use Rattle.hcc_table.proofs.Lasting.{alone_shows, entry_seeks, met_there, reach_seeks, reached_seeks}
 use Rattle.hcc_table.proofs.Moments.{none_shown, some_and}
-use Rattle.hcc_table.proofs.Occupied.{occupy_tells, passed_keeps, show_tells, taken_tells, use_tells, writes_keep}
+use Rattle.hcc_table.proofs.Occupied.{occupy_tells, passed_keeps, show_tells, taken_tells, use_tells, write_after}
 use Rattle.hcc_table.proofs.Seeking.{seeks_one, seeks_then}
 use Rattle.hcc_table.proofs.Shown.{acquire_hides, acquire_shows}
-use Rattle.hcc_table.proofs.Unshown.{KeepsOwned, owned_at, unpasses_keep}
+use Rattle.hcc_table.proofs.Unshown.{KeepsOwned, goes_keep, owned_at, unpass_after}
 
 module _ {T A : Type 0} (table : RuleTable T A) (one : clients_of table ≡ 1) (key : Key) where
   -- What is shown in one world is shown where the same is.
@@ -44,11 +41,8 @@ module _ {T A : Type 0} (table : RuleTable T A) (one : clients_of table ≡ 1) (
   -- The trail was taken back.
   unpassed : {a b : SeatOf T} → GoesOnBy table is_unpass a b
       → ShowsSame (world_at table a) (world_at table b)
-  unpassed {a} h s =
-      ap (λ ds. shown_at (world_of (plan_of table) ds) s) h.goes_on
-      ∙ ap (λ w. shown_at w s) (after_more (past a) h.more (begun_world (plan_of table)))
-      ∙ ap (λ xs. option_and_then entry_shown (slice_get xs s))
-      (unpasses_keep h.more (h.alone one) (world_at table a)).0
+  unpassed h s =
+      ap (λ xs. option_and_then entry_shown (slice_get xs s)) (goes_keep unpass_after one h).0
 
   -- A slot that isn't empty was looked at.
   looked_at : {slot seen : ℕ} {a b : SeatOf T} → FindsTaken table slot seen a b
@@ -213,16 +207,8 @@ module _ {T A : Type 0} (table : RuleTable T A) (one : clients_of table ≡ 1) (
             taken_tells (world_at table a) (world_at table h.took) (view a).client slot h.word
             (event_alone table one _ a h.took h.takes) h.empty
 
-        led : world_at table wrote
-            ≡ after_all (world_at table h.took) (events_of h.builds.1.more)
-        led =
-            ap (world_of (plan_of table)) h.builds.1.goes_on
-            ∙ after_more (past h.took) h.builds.1.more (begun_world (plan_of table))
-
         kept : KeepsOwned (world_at table h.took) (world_at table wrote)
-        kept =
-            subst (KeepsOwned (world_at table h.took)) (sym led)
-            (writes_keep h.builds.1.more (h.builds.1.alone one) (world_at table h.took))
+        kept = goes_keep write_after one h.builds.1
 
         mine : owned_at (world_at table wrote) (view wrote).client
             ≡ Some (owned.ForBuilding slot)

@@ -31,7 +31,7 @@ use Rattle.hcc_rule.specs.Views.{Each}
 use Rattle.hcc_table.specs.Seeking.{is_write}
 use Rattle.hcc_table.specs.Standing.{entry_shown, shown_at}
 use Rattle.hcc_table.proofs.Shown.{bound, ruled, same_outcome, same_phase, unshown_phase}
-use Rattle.hcc_table.proofs.Unshown.{KeepsOwned, event_keeps, on_the_way, owned_at}
+use Rattle.hcc_table.proofs.Unshown.{KeepsOwned, each_keeps, event_keeps, on_the_way, owned_at}
 
 -- A look: the slot has this phase, and the world stays.
 looked_tells : (w : State) {next : State} (client slot : ℕ) {p : Phase} {seen : Slot}
@@ -169,17 +169,13 @@ write_keeps w client =
     on_the_way w (allow (is_building found.owned)) (λ u. Ok (replies.Ok, w))
     (λ u may. (refl, λ c. refl)))
 
-write_after : (w : State) (event : Event) → is_write event ≡ true → KeepsOwned w (after w event)
+pub write_after : (w : State) (event : Event) → is_write event ≡ true → KeepsOwned w (after w event)
 write_after w (events.Write client) is = event_keeps w (events.Write client) (write_keeps w client)
 write_after w other is = cc
 
 pub writes_keep : (ds : List Done) → Each (λ (done : Done). is_write done.event ≡ true) ds
     → (w : State) → KeepsOwned w (after_all w (events_of ds))
-writes_keep [] only w = (refl, λ c. refl)
-writes_keep (d ∷ ds) only w =
-    let first = write_after w d.event only.0 in
-    let rest = writes_keep ds only.1 (after w d.event) in
-    (rest.0 ∙ first.0, λ c. rest.1 c ∙ first.1 c)
+writes_keep = each_keeps write_after
 
 -- A use changes nothing of what is shown.
 used_shows : (client name : ℕ) (k : Reference) (seen : Slot)

@@ -1,5 +1,5 @@
 -- What a release leaves of what a shard of one client shows.
-use Rattle.std.proofs.Common.{◌&&◌, ◌≡◌, ◌≢◌, ℕ, Bool, true, false, Option, Some, None, Ok, slice_get, sym, refl, ap, ◌∙◌, subst}
+use Rattle.std.proofs.Common.{◌&&◌, ◌≡◌, ◌≢◌, ℕ, Bool, true, false, Option, Some, None, Ok, slice_get, sym, refl, ap, ◌∙◌}
 use Rattle.std.specs.Prelude.{IfNone, IfSome, option_and_then}
 use Rattle.hcc_core.specs.declared.client.Client.{Client}
 use Rattle.hcc_core.specs.declared.client.Owned.TheVariants as owned
@@ -9,17 +9,13 @@ use Rattle.hcc_core.specs.declared.slot.Slot.{Slot}
 use Rattle.hcc_core.specs.declared.slot.Slot.TheVariants as slots
 use Rattle.hcc_core.specs.Entries.{client_freeing, free_of, may_free}
 use Rattle.hcc_core.specs.Outcomes.{allow, live_at, slot_at, with_both}
-use Rattle.hcc_core.specs.Runs.{after_all}
 use Rattle.hcc_core.specs.Steps.{outcome_of}
 use Rattle.hcc_core.specs.World.{State}
 use Rattle.hcc_core.proofs.Keeps.{found_ok, live_ok}
 use Rattle.hcc_core.proofs.ListLemmas.{read_here, read_other}
 use Rattle.hcc_rule.specs.declared.table.RuleTable.{RuleTable}
-use Rattle.hcc_rule.specs.Acts.{events_of, past, world_of}
-use Rattle.hcc_rule.specs.Callers.{IsEvent, clients_of, plan_of, world_at}
-use Rattle.hcc_rule.specs.Opening.{begun_world}
+use Rattle.hcc_rule.specs.Callers.{IsEvent, clients_of, world_at}
 use Rattle.hcc_rule.specs.Seats.{SeatOf, view}
-use Rattle.hcc_rule.proofs.Seats.Histories.{after_more}
 use Rattle.std.proofs.Common.{option_map}
 use Rattle.hcc_table.specs.Freed.{IsLeftBy, TakesByWhereDue, free_event, is_due}
 use Rattle.hcc_table.specs.Seeking.{Empties}
@@ -29,7 +25,7 @@ use Rattle.hcc_table.proofs.Alone.{event_alone}
 use Rattle.hcc_table.proofs.Seeking.{goes_event, goes_none, goes_then}
 use Rattle.hcc_table.proofs.Shown.{bound, ruled, same_outcome}
 use Rattle.hcc_table.proofs.Still.{leaves_shown, still_alone}
-use Rattle.hcc_table.proofs.Unshown.{KeepsOwned, empty_tells, owned_at, unpasses_keep}
+use Rattle.hcc_table.proofs.Unshown.{KeepsOwned, empty_tells, goes_keep, owned_at, unpass_after}
 
 -- An entry was taken: its slot is the client's, and each other one shows what it showed.
 frees_tell : (w next : State) (client slot charge : ℕ) (name : Option ℕ)
@@ -113,15 +109,8 @@ module _ {T A : Type 0} (table : RuleTable T A) (one : clients_of table ≡ 1) w
           frees_tell (world_at table a) (world_at table took) (view a).client slot charge name
           (event_alone table one _ a took event)
 
-      led : world_at table mid ≡ after_all (world_at table took) (events_of empties.1.more)
-      led =
-          ap (world_of (plan_of table)) empties.1.goes_on
-          ∙ after_more (past took) empties.1.more (begun_world (plan_of table))
-
       kept : KeepsOwned (world_at table took) (world_at table mid)
-      kept =
-          subst (KeepsOwned (world_at table took)) (sym led)
-          (unpasses_keep empties.1.more (empties.1.alone one) (world_at table took))
+      kept = goes_keep unpass_after one empties.1
 
       rest : (s : ℕ) → shown_at (world_at table b) s ≡ shown_at (world_at table took) s
       rest s =
