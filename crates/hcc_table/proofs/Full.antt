@@ -111,8 +111,7 @@ occupy_takes {w} {next} client slot word l one is taken =
     by found (slots.Building other strays) at live free reply =
         let owner = owner_there (slice_get w.clients other)
         (l.owners.owns slot other (ap owner_in at)) in
-        let there : other ≡ client =
-        at_front w.clients other one owner.1
+        let there : other ≡ client = at_front w.clients other one owner.1
         ∙ sym (at_front w.clients client one live) in
         let both : Some owner.0 ≡ Some found =
         sym owner.1 ∙ ap (slice_get w.clients) there ∙ live in

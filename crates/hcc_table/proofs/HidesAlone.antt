@@ -115,8 +115,8 @@ module _ (key : Key) where
         subst (λ s. counts_shown key (shown_at w s) ≡ c) (sym here) had in
         omega arith
     | inr other ↦
-        let rest : shown_of n key next + c ≡ shown_of n key w =
-        shown_less n w next (omega arith) none had others in
+        let rest : shown_of n key next + c ≡ shown_of n key w = shown_less n w next (omega arith)
+        none had others in
         let same : counts_shown key (shown_at next n) ≡ counts_shown key (shown_at w n) =
         ap (counts_shown key) (others n other) in
         omega arith

@@ -10,9 +10,8 @@ reach-found-requires-clause-reach g c =
 
 pub returns-clause-record : goal.returns-clause-record
 returns-clause-record g c =
-    let more =
-    one_more c.args.pin.name (pinned_on c.args.pin (view c.args.seat.now) c.requires.holds)
-    c.reach-found.ensures.view in
+    let more = one_more c.args.pin.name
+    (pinned_on c.args.pin (view c.args.seat.now) c.requires.holds) c.reach-found.ensures.view in
     (more.0, more.1, (more.2, more.4, more.5 ∙ sym c.is_counting.ensures), more.3, more.6)
 
 pub returns-clause-by : goal.returns-clause-by

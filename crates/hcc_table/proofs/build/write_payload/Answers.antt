@@ -21,10 +21,7 @@ pub write_at-requires-clause-owned : goal.write_at-requires-clause-owned
 write_at-requires-clause-owned g c = still_builds c.loop-k.invariant.0 c.requires.owned
 
 pub write_at-requires-clause-next : goal.write_at-requires-clause-next
-write_at-requires-clause-next g c = (
-  next_word c.loop-k.invariant.0 c.requires.head,
-  omega arith,
-)
+write_at-requires-clause-next g c = (next_word c.loop-k.invariant.0 c.requires.head, omega arith)
 
 pub loop-k-preserved : goal.loop-k-preserved
 loop-k-preserved g c =

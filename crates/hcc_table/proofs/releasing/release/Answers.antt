@@ -22,10 +22,7 @@ returns-then-is_free_to_go-clause-tried g c =
       rw (← c.is_use-used.ensures) c.let_go-left.ensures.left,
       tried_due _ _ due c.try_free.ensures.won c.try_free.ensures.lost c.try_free.ensures.tried,
       rw (← c.is_use-used.ensures) c.let_go-left.ensures.by,
-      (
-        (λ _. c.try_free.ensures.by),
-        (λ off. neither _ due off),
-      ),
+      ((λ _. c.try_free.ensures.by), (λ off. neither _ due off)),
     )
 
 pub returns-else-is_free_to_go-clause-tried : goal.returns-else-is_free_to_go-clause-tried
@@ -37,10 +34,7 @@ returns-else-is_free_to_go-clause-tried g c =
       rw (← c.is_use-used.ensures) c.let_go-left.ensures.left,
       not_due due refl refl,
       rw (← c.is_use-used.ensures) c.let_go-left.ensures.by,
-      (
-        (λ on. neither _ on due),
-        (λ _. refl),
-      ),
+      ((λ on. neither _ on due), (λ _. refl)),
     )
 
 pub returns-then-is_free_to_go-clause-freed : goal.returns-then-is_free_to_go-clause-freed
