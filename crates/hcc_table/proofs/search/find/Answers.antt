@@ -10,7 +10,7 @@ use Rattle.hcc_table.proofs.Rises.{counted_probes, took_then, took_probes}
 use Rattle.hcc_table.proofs.Searches.{searched_refl}
 use Rattle.hcc_rule.specs.Records.{record_in}
 use Rattle.hcc_rule.proofs.Probes.ProbeLaws.{some_slots}
-use Rattle.hcc_table.proofs.Finds.{begins, goes_on, ends, ends_all}
+use Rattle.hcc_table.proofs.Finds.{begins, goes_on, ends, ends_all, seat_then}
 use Rattle.hcc_table.proofs.Probes.{found_stands, found_then}
 use Rattle.hcc_table.proofs.Probings.{finds_here, marks_add, misses_all, misses_here, passed_none, passed_then}
 use Rattle.hcc_table.proofs.search.find.Goals as goal
@@ -69,46 +69,6 @@ returns-in-Some-clause-steps g c =
       steps = omega arith;
     }
 
-pub returns-then-count_at-eq0-clause-missed : goal.returns-then-count_at-eq0-clause-missed
-returns-then-count_at-eq0-clause-missed g c =
-    let table = c.args.table.now in
-    let told = c.count_at.ensures in
-    ends (begins c.args.table.now.geometry.slots c.args.key c.args.table.now.limits.power
-    c.begin-walk.result c.args.seat.now c.begin-walk.ensures.probe c.begin-walk.ensures.stride
-    (rw (← c.geometry-slots.ensures) c.begin-walk.ensures.mask)) c.slot-home.ensures
-    table.limits.power c.count_at.result c.acquire_at.ensures.seat told.seat
-    c.in_default.ensures.missed told.view told.held told.within c.if-count_at-eq0.true
-
-pub returns-then-count_at-eq0-clause-searches : goal.returns-then-count_at-eq0-clause-searches
-returns-then-count_at-eq0-clause-searches g c =
-    let counted = c.probes-then-count_at-eq0.ensures in
-    let told = c.count_at.ensures in
-    misses_here (passed_none g.T.Tag.fits c.args.table.now c.args.key c.args.name c.args.effort.now
-    c.args.seat.now) (c.slot-home.ensures ∙
-    (begins c.args.table.now.geometry.slots c.args.key c.args.table.now.limits.power
-    c.begin-walk.result c.args.seat.now c.begin-walk.ensures.probe c.begin-walk.ensures.stride
-    (rw (← c.geometry-slots.ensures) c.begin-walk.ensures.mask)).walking.probe)
-    c.in_default.ensures.passes.1 told.step told.event told.view c.if-count_at-eq0.true
-    (counted.probes, counted.corrections, counted.lost)
-
-pub returns-then-count_at-eq0-clause-unmarked : goal.returns-then-count_at-eq0-clause-unmarked
-returns-then-count_at-eq0-clause-unmarked g c _ =
-    unmarked_then c.acquire_at.ensures.adds (unmarked_zero c.count_at.ensures.step)
-
-pub returns-then-count_at-eq0-clause-steps : goal.returns-then-count_at-eq0-clause-steps
-returns-then-count_at-eq0-clause-steps g c =
-    let slots = c.args.table.now.geometry.slots in
-    let some : 0 < slots = some_slots slots c.args.table.now.limits.power in
-    let held = c.acquire_at.ensures.steps in
-    let last = c.count_at.ensures.step.one in
-    record {
-      visited = 1;
-      within = omega arith;
-      counted = counted_probes 1 1 c.probes-then-count_at-eq0.new.self c.acquire_at.ensures.effort
-          c.probes-then-count_at-eq0.ensures.probes;
-      steps = omega arith;
-    }
-
 pub loop-probe-init : goal.loop-probe-init
 loop-probe-init g c =
     let table = c.args.table.now in
@@ -127,15 +87,6 @@ loop-probe-init g c =
           (c.slot-home.ensures ∙ start.walking.probe) c.in_default.ensures.passes.1 told.step
           told.event told.view c.if-count_at-eq0.false,
     )
-
-pub returns-then-count_at-eq0-2-clause-missed : goal.returns-then-count_at-eq0-2-clause-missed
-returns-then-count_at-eq0-2-clause-missed g c =
-    let table = c.args.table.now in
-    let told = c.count_at-in-loop-probe.ensures in
-    ends c.loop-probe.invariant.0 c.slot-slot.ensures table.limits.power
-    c.count_at-in-loop-probe.result c.acquire_at-in-loop-probe.ensures.seat told.seat
-    (c.in_default-acquire_at.ensures.missed) told.view told.held told.within
-    c.if-count_at-eq0-2.true
 
 pub loop-probe-preserved : goal.loop-probe-preserved
 loop-probe-preserved g c =
@@ -164,15 +115,6 @@ loop-probe-preserved g c =
         took_then c.loop-probe.probe 1 c.loop-probe.invariant.1
         c.acquire_at-in-loop-probe.ensures.effort (omega arith)
 
-pub returns-clause-missed : goal.returns-clause-missed
-returns-clause-missed g c =
-    let table = c.args.table.now in
-    let size = c.geometry-slots.ensures in
-    ends_all table.limits.power (some_slots table.geometry.slots table.limits.power)
-    (rw (← size) c.loop-probe-test.false) (rw (← size) (c.loop-probe.auto.probe-end
-    (rw size (some_slots c.args.table.now.geometry.slots c.args.table.now.limits.power))))
-    c.loop-probe.invariant.0
-
 pub mark_if-requires-in-Some-acquire_at-clause-holds :
     goal.mark_if-requires-in-Some-acquire_at-clause-holds
 mark_if-requires-in-Some-acquire_at-clause-holds g c =
@@ -200,30 +142,6 @@ returns-in-Some-acquire_at-clause-effort g c =
     (took_then i 1 c.loop-probe.invariant.1 c.acquire_at-in-loop-probe.ensures.effort (omega arith))
     counted.probes counted.corrections counted.lost (omega arith) (omega arith) (omega arith)
 
-pub returns-then-count_at-eq0-2-clause-effort : goal.returns-then-count_at-eq0-2-clause-effort
-returns-then-count_at-eq0-2-clause-effort g c =
-    let counted = c.probes-then-count_at-eq0-2.ensures in
-    let size = c.geometry-slots.ensures in
-    let i = c.loop-probe.probe in
-    let slots = c.args.table.now.geometry.slots in
-    let low : i < slots = rw (← size) c.loop-probe-test.true in
-    took_probes (i + 1) (i + 1)
-    (took_then i 1 c.loop-probe.invariant.1 c.acquire_at-in-loop-probe.ensures.effort (omega arith))
-    counted.probes counted.corrections counted.lost (omega arith) (omega arith) (omega arith)
-
-pub returns-clause-effort : goal.returns-clause-effort
-returns-clause-effort g c =
-    let counted = c.probes-2.ensures in
-    let size = c.geometry-slots.ensures in
-    let i = c.loop-probe.probe in
-    let slots = c.args.table.now.geometry.slots in
-    let past : slots ≤ i = rw (← size) c.loop-probe-test.false in
-    let most : i ≤ slots = rw (← size) (c.loop-probe.auto.probe-end
-    (rw size (some_slots c.args.table.now.geometry.slots c.args.table.now.limits.power))) in
-    let some : 0 < slots = some_slots slots c.args.table.now.limits.power in
-    took_probes slots i c.loop-probe.invariant.1 (rw (← size) counted.probes) counted.corrections
-    counted.lost (omega arith) (omega arith) (omega arith)
-
 pub returns-in-Some-acquire_at-clause-steps : goal.returns-in-Some-acquire_at-clause-steps
 returns-in-Some-acquire_at-clause-steps g c =
     let i = c.loop-probe.probe in
@@ -238,39 +156,6 @@ returns-in-Some-acquire_at-clause-steps g c =
       counted = counted_probes (i + 1) (i + 1) c.probes-in-Some-acquire_at.new.self (took_then i 1
           c.loop-probe.invariant.1 c.acquire_at-in-loop-probe.ensures.effort (omega arith))
           c.probes-in-Some-acquire_at.ensures.probes;
-      steps = omega arith;
-    }
-
-pub returns-then-count_at-eq0-2-clause-steps : goal.returns-then-count_at-eq0-2-clause-steps
-returns-then-count_at-eq0-2-clause-steps g c =
-    let i = c.loop-probe.probe in
-    let size = c.geometry-slots.ensures in
-    let low : i < c.args.table.now.geometry.slots = rw (← size) c.loop-probe-test.true in
-    let so_far = c.loop-probe.invariant.2 in
-    let held = c.acquire_at-in-loop-probe.ensures.steps in
-    let last = c.count_at-in-loop-probe.ensures.step.one in
-    record {
-      visited = i + 1;
-      within = omega arith;
-      counted = counted_probes (i + 1) (i + 1) c.probes-then-count_at-eq0-2.new.self (took_then i 1
-          c.loop-probe.invariant.1 c.acquire_at-in-loop-probe.ensures.effort (omega arith))
-          c.probes-then-count_at-eq0-2.ensures.probes;
-      steps = omega arith;
-    }
-
-pub returns-clause-steps : goal.returns-clause-steps
-returns-clause-steps g c =
-    let i = c.loop-probe.probe in
-    let size = c.geometry-slots.ensures in
-    let slots = c.args.table.now.geometry.slots in
-    let most : i ≤ slots = rw (← size) (c.loop-probe.auto.probe-end
-    (rw size (some_slots c.args.table.now.geometry.slots c.args.table.now.limits.power))) in
-    let so_far = c.loop-probe.invariant.2 in
-    record {
-      visited = slots;
-      within = omega arith;
-      counted = counted_probes slots i c.probes-2.new.self c.loop-probe.invariant.1
-          (rw (← size) c.probes-2.ensures.probes);
       steps = omega arith;
     }
 
@@ -322,14 +207,6 @@ returns-in-Some-acquire_at-clause-unmarked g c unasked =
     unmarked_then (unmarked_then c.loop-probe.invariant.3 c.acquire_at-in-loop-probe.ensures.adds)
     (unmarked_none (c.mark_if-in-Some-acquire_at.ensures.unasked unasked))
 
-pub returns-then-count_at-eq0-2-clause-unmarked : goal.returns-then-count_at-eq0-2-clause-unmarked
-returns-then-count_at-eq0-2-clause-unmarked g c _ =
-    unmarked_then (unmarked_then c.loop-probe.invariant.3 c.acquire_at-in-loop-probe.ensures.adds)
-    (unmarked_zero c.count_at-in-loop-probe.ensures.step)
-
-pub returns-clause-unmarked : goal.returns-clause-unmarked
-returns-clause-unmarked g c _ = c.loop-probe.invariant.3
-
 pub returns-in-Some-acquire_at-clause-searches : goal.returns-in-Some-acquire_at-clause-searches
 returns-in-Some-acquire_at-clause-searches g c =
     let counted = c.probes-in-Some-acquire_at.ensures in (
@@ -343,26 +220,122 @@ returns-in-Some-acquire_at-clause-searches g c =
       c.is_counting-in-Some-acquire_at.ensures,
     )
 
-pub returns-then-count_at-eq0-2-clause-searches : goal.returns-then-count_at-eq0-2-clause-searches
-returns-then-count_at-eq0-2-clause-searches g c =
-    let counted = c.probes-then-count_at-eq0-2.ensures in
-    let told = c.count_at-in-loop-probe.ensures in
-    misses_here c.loop-probe.invariant.4
-    (c.slot-slot.ensures ∙ c.loop-probe.invariant.0.walking.probe)
-    c.in_default-acquire_at.ensures.passes.1 told.step told.event told.view c.if-count_at-eq0-2.true
-    (counted.probes, counted.corrections, counted.lost)
+pub returns-then-count_at-eq0 : goal.returns-then-count_at-eq0
+returns-then-count_at-eq0 g c =
+    let table = c.args.table.now in
+    let slots = table.geometry.slots in
+    let told = c.count_at.ensures in
+    let counted = c.probes-then-count_at-eq0.ensures in
+    let start = begins slots c.args.key table.limits.power c.begin-walk.result c.args.seat.now
+    c.begin-walk.ensures.probe c.begin-walk.ensures.stride
+    (rw (← c.geometry-slots.ensures) c.begin-walk.ensures.mask) in
+    let some : 0 < slots = some_slots slots table.limits.power in
+    let tried = c.acquire_at.ensures.steps in
+    let last = told.step.one in
+    record {
+      seat = seat_then _ _ _ c.acquire_at.ensures.seat told.seat;
+      effort = took_probes 1 1 c.acquire_at.ensures.effort counted.probes counted.corrections
+          counted.lost (omega arith) (omega arith) (omega arith);
+      pin = tt;
+      held = tt;
+      found = tt;
+      missed = ends start c.slot-home.ensures table.limits.power c.count_at.result
+          c.acquire_at.ensures.seat told.seat c.in_default.ensures.missed told.view told.held
+          told.within c.if-count_at-eq0.true;
+      searches = misses_here
+          (passed_none g.T.Tag.fits table c.args.key c.args.name c.args.effort.now c.args.seat.now)
+          (c.slot-home.ensures ∙ start.walking.probe) c.in_default.ensures.passes.1 told.step
+          told.event told.view c.if-count_at-eq0.true
+          (counted.probes, counted.corrections, counted.lost);
+      acquired = tt;
+      marked = λ _. tt;
+      unmarked = λ _. unmarked_then c.acquire_at.ensures.adds (unmarked_zero told.step);
+      steps = record {
+        visited = 1;
+        within = omega arith;
+        counted = counted_probes 1 1 c.probes-then-count_at-eq0.new.self c.acquire_at.ensures.effort
+            counted.probes;
+        steps = omega arith;
+      };
+    }
 
-pub returns-clause-searches : goal.returns-clause-searches
-returns-clause-searches g c =
-    let counted = c.probes-2.ensures in
+pub returns-then-count_at-eq0-2 : goal.returns-then-count_at-eq0-2
+returns-then-count_at-eq0-2 g c =
+    let table = c.args.table.now in
+    let i = c.loop-probe.probe in
+    let slots = table.geometry.slots in
+    let low : i < slots = rw (← c.geometry-slots.ensures) c.loop-probe-test.true in
+    let searching = c.loop-probe.invariant.0 in
+    let told = c.count_at-in-loop-probe.ensures in
+    let counted = c.probes-then-count_at-eq0-2.ensures in
+    let so_far = c.loop-probe.invariant.2 in
+    let tried = c.acquire_at-in-loop-probe.ensures.steps in
+    let last = told.step.one in
+    let took : Took 0 0 (i + 1) c.args.effort.now c.acquire_at-in-loop-probe.new.effort = took_then
+    i 1 c.loop-probe.invariant.1 c.acquire_at-in-loop-probe.ensures.effort (omega arith) in
+    record {
+      seat = seat_then _ _ _ searching.same
+          (seat_then _ _ _ c.acquire_at-in-loop-probe.ensures.seat told.seat);
+      effort = took_probes (i + 1) (i + 1) took counted.probes counted.corrections counted.lost
+          (omega arith) (omega arith) (omega arith);
+      pin = tt;
+      held = tt;
+      found = tt;
+      missed = ends searching c.slot-slot.ensures table.limits.power c.count_at-in-loop-probe.result
+          c.acquire_at-in-loop-probe.ensures.seat told.seat c.in_default-acquire_at.ensures.missed
+          told.view told.held told.within c.if-count_at-eq0-2.true;
+      searches = misses_here c.loop-probe.invariant.4
+          (c.slot-slot.ensures ∙ searching.walking.probe) c.in_default-acquire_at.ensures.passes.1
+          told.step told.event told.view c.if-count_at-eq0-2.true
+          (counted.probes, counted.corrections, counted.lost);
+      acquired = tt;
+      marked = λ _. tt;
+      unmarked = λ _. unmarked_then
+          (unmarked_then c.loop-probe.invariant.3 c.acquire_at-in-loop-probe.ensures.adds)
+          (unmarked_zero told.step);
+      steps = record {
+        visited = i + 1;
+        within = omega arith;
+        counted = counted_probes (i + 1) (i + 1) c.probes-then-count_at-eq0-2.new.self took
+            counted.probes;
+        steps = omega arith;
+      };
+    }
+
+pub returns : goal.returns
+returns g c =
+    let table = c.args.table.now in
+    let i = c.loop-probe.probe in
     let size = c.geometry-slots.ensures in
-    let slots = c.args.table.now.geometry.slots in
-    let past : slots ≤ c.loop-probe.probe = rw (← size) c.loop-probe-test.false in
-    let most : c.loop-probe.probe ≤ slots = rw (← size) (c.loop-probe.auto.probe-end
-    (rw size (some_slots c.args.table.now.geometry.slots c.args.table.now.limits.power))) in
-    let some : 0 < slots = some_slots slots c.args.table.now.limits.power in
-    let all : c.loop-probe.probe ≡ slots = omega arith in
-    let visited : VisitedSlots slots c.loop-probe.effort c.probes-2.new.self =
-    (rw (← size) counted.probes, counted.corrections, counted.lost) in
-    misses_all c.loop-probe.invariant.4 (omega arith) all
-    (subst (λ n. VisitedSlots n c.loop-probe.effort c.probes-2.new.self) (sym all) visited)
+    let slots = table.geometry.slots in
+    let some : 0 < slots = some_slots slots table.limits.power in
+    let past : slots ≤ i = rw (← size) c.loop-probe-test.false in
+    let most : i ≤ slots = rw (← size) (c.loop-probe.auto.probe-end (rw size some)) in
+    let all : i ≡ slots = omega arith in
+    let searching = c.loop-probe.invariant.0 in
+    let so_far = c.loop-probe.invariant.2 in
+    let counted : VisitedSlots slots c.loop-probe.effort c.probes-2.new.self = (
+      rw (← size) c.probes-2.ensures.probes,
+      c.probes-2.ensures.corrections,
+      c.probes-2.ensures.lost,
+    ) in
+    record {
+      seat = searching.same;
+      effort = took_probes slots i c.loop-probe.invariant.1 counted.0 counted.1 counted.2
+          (omega arith) (omega arith) (omega arith);
+      pin = tt;
+      held = tt;
+      found = tt;
+      missed = ends_all table.limits.power some past most searching;
+      searches = misses_all c.loop-probe.invariant.4 (omega arith) all
+          (subst (λ n. VisitedSlots n c.loop-probe.effort c.probes-2.new.self) (sym all) counted);
+      acquired = tt;
+      marked = λ _. tt;
+      unmarked = λ _. c.loop-probe.invariant.3;
+      steps = record {
+        visited = slots;
+        within = omega arith;
+        counted = counted_probes slots i c.probes-2.new.self c.loop-probe.invariant.1 counted.0;
+        steps = omega arith;
+      };
+    }
