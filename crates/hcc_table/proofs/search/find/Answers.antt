@@ -1,10 +1,10 @@
-use Rattle.std.proofs.Common.{◌≡◌, ◌+◌, ◌<◌, ◌≤◌, ap, refl, subst, sym, ◌∙◌, arith}
+use Rattle.std.proofs.Common.{◌≡◌, ◌+◌, ◌<◌, ◌≤◌, ap, refl, subst, sym, ◌∙◌, arith, rules}
 use Rattle.hcc_word.specs.Word.{hit_of}
 use Rattle.hcc_table.specs.Efforts.{Took, VisitedSlots}
 use Rattle.hcc_rule.specs.declared.view.Atomic.{Atomic}
 use Rattle.hcc_rule.specs.Addresses.{address_of_meta}
 use Rattle.hcc_rule.specs.Seats.{atomic, view}
-use Rattle.hcc_table.specs.Steps.{Adds}
+use Rattle.hcc_table.specs.Steps.{AddsUnmarked, Among}
 use Rattle.hcc_table.proofs.Logs.{adds_none, among_after, among_then, ends_after, unmarked_adds, unmarked_none, unmarked_then, unmarked_zero}
 use Rattle.hcc_table.proofs.Rises.{counted_probes, took_then, took_probes}
 use Rattle.hcc_table.proofs.Searches.{searched_refl}
@@ -121,104 +121,6 @@ mark_if-requires-in-Some-acquire_at-clause-holds g c =
     let found = c.in-Some-acquire_at.ensures.found in
     found_stands
     (ap (record_in c.args.name) c.loop-probe.invariant.0.sought.records ∙ c.requires.fresh) found.1
-
-pub returns-in-Some-acquire_at-clause-found : goal.returns-in-Some-acquire_at-clause-found
-returns-in-Some-acquire_at-clause-found g c =
-    let found = c.in-Some-acquire_at.ensures.found in (
-      found.0,
-      found_then _ _ _ _ _ _ _ _ _ found.0 c.loop-probe.invariant.0.sought found.1
-          c.mark_if-in-Some-acquire_at.ensures.view,
-      found.2 ∙ sym c.is_counting-in-Some-acquire_at.ensures,
-    )
-
-pub returns-in-Some-acquire_at-clause-effort : goal.returns-in-Some-acquire_at-clause-effort
-returns-in-Some-acquire_at-clause-effort g c =
-    let counted = c.probes-in-Some-acquire_at.ensures in
-    let size = c.geometry-slots.ensures in
-    let i = c.loop-probe.probe in
-    let slots = c.args.table.now.geometry.slots in
-    let low : i < slots = rw (← size) c.loop-probe-test.true in
-    took_probes (i + 1) (i + 1)
-    (took_then i 1 c.loop-probe.invariant.1 c.acquire_at-in-loop-probe.ensures.effort (omega arith))
-    counted.probes counted.corrections counted.lost (omega arith) (omega arith) (omega arith)
-
-pub returns-in-Some-acquire_at-clause-steps : goal.returns-in-Some-acquire_at-clause-steps
-returns-in-Some-acquire_at-clause-steps g c =
-    let i = c.loop-probe.probe in
-    let size = c.geometry-slots.ensures in
-    let low : i < c.args.table.now.geometry.slots = rw (← size) c.loop-probe-test.true in
-    let so_far = c.loop-probe.invariant.2 in
-    let held = c.acquire_at-in-loop-probe.ensures.steps in
-    let last = c.mark_if-in-Some-acquire_at.ensures.steps in
-    record {
-      visited = i + 1;
-      within = omega arith;
-      counted = counted_probes (i + 1) (i + 1) c.probes-in-Some-acquire_at.new.self (took_then i 1
-          c.loop-probe.invariant.1 c.acquire_at-in-loop-probe.ensures.effort (omega arith))
-          c.probes-in-Some-acquire_at.ensures.probes;
-      steps = omega arith;
-    }
-
-pub returns-in-Some-acquire_at-clause-marked : goal.returns-in-Some-acquire_at-clause-marked
-returns-in-Some-acquire_at-clause-marked g c asked = (
-  c.in-Some-acquire_at.found,
-  λ unhit. let set = c.mark_if-in-Some-acquire_at.ensures.marked asked unhit in (
-    set.0,
-    ends_after _ c.args.seat.now c.acquire_at-in-loop-probe.new.seat
-        c.mark_if-in-Some-acquire_at.new.seat before set.1.step,
-  ),
-  λ hit. among_then got c.args.seat.now c.acquire_at-in-loop-probe.new.seat
-      c.mark_if-in-Some-acquire_at.new.seat (among_after got c.args.seat.now c.loop-probe.seat
-      c.acquire_at-in-loop-probe.new.seat (unmarked_adds c.loop-probe.invariant.3)
-      c.in-Some-acquire_at.ensures.acquired) (adds_none c.acquire_at-in-loop-probe.new.seat
-      c.mark_if-in-Some-acquire_at.new.seat (c.mark_if-in-Some-acquire_at.ensures.unmarked hit)),
-)
-  where
-    got : Atomic
-    got =
-        atomic (address_of_meta c.args.table.now c.slot-slot.result) 1 0
-        c.in-Some-acquire_at.found
-
-    before : Adds c.args.seat.now c.acquire_at-in-loop-probe.new.seat
-    before =
-        unmarked_adds
-        (unmarked_then c.loop-probe.invariant.3 c.acquire_at-in-loop-probe.ensures.adds)
-
-pub returns-in-Some-acquire_at-clause-acquired : goal.returns-in-Some-acquire_at-clause-acquired
-returns-in-Some-acquire_at-clause-acquired g c = (
-  c.in-Some-acquire_at.found,
-  c.in-Some-acquire_at.ensures.catches.visible,
-  c.is_counting-in-Some-acquire_at.ensures,
-  among_then got c.args.seat.now c.acquire_at-in-loop-probe.new.seat
-      c.mark_if-in-Some-acquire_at.new.seat (among_after got c.args.seat.now c.loop-probe.seat
-      c.acquire_at-in-loop-probe.new.seat (unmarked_adds c.loop-probe.invariant.3)
-      c.in-Some-acquire_at.ensures.acquired) (marks_add c.args.marks
-      (hit_of c.in-Some-acquire_at.found) c.mark_if-in-Some-acquire_at.ensures.marked
-      c.mark_if-in-Some-acquire_at.ensures.unmarked c.mark_if-in-Some-acquire_at.ensures.unasked),
-)
-  where
-    got : Atomic
-    got =
-        atomic (address_of_meta c.args.table.now c.slot-slot.result) 1 0
-        c.in-Some-acquire_at.found
-
-pub returns-in-Some-acquire_at-clause-unmarked : goal.returns-in-Some-acquire_at-clause-unmarked
-returns-in-Some-acquire_at-clause-unmarked g c unasked =
-    unmarked_then (unmarked_then c.loop-probe.invariant.3 c.acquire_at-in-loop-probe.ensures.adds)
-    (unmarked_none (c.mark_if-in-Some-acquire_at.ensures.unasked unasked))
-
-pub returns-in-Some-acquire_at-clause-searches : goal.returns-in-Some-acquire_at-clause-searches
-returns-in-Some-acquire_at-clause-searches g c =
-    let counted = c.probes-in-Some-acquire_at.ensures in (
-      c.in-Some-acquire_at.found,
-      finds_here c.loop-probe.invariant.4
-          (c.slot-slot.ensures ∙ c.loop-probe.invariant.0.walking.probe)
-          c.in-Some-acquire_at.ensures.catches (counted.probes, counted.corrections, counted.lost)
-          c.mark_if-in-Some-acquire_at.ensures.marked c.mark_if-in-Some-acquire_at.ensures.unmarked
-          c.mark_if-in-Some-acquire_at.ensures.unasked c.mark_if-in-Some-acquire_at.ensures.by
-          c.mark_if-in-Some-acquire_at.ensures.view,
-      c.is_counting-in-Some-acquire_at.ensures,
-    )
 
 pub returns-then-count_at-eq0 : goal.returns-then-count_at-eq0
 returns-then-count_at-eq0 g c =
@@ -339,3 +241,81 @@ returns g c =
         steps = omega arith;
       };
     }
+
+pub returns-in-Some-acquire_at : goal.returns-in-Some-acquire_at
+returns-in-Some-acquire_at g c =
+    let table = c.args.table.now in
+    let i = c.loop-probe.probe in
+    let slots = table.geometry.slots in
+    let low : i < slots = rw (← c.geometry-slots.ensures) c.loop-probe-test.true in
+    let searching = c.loop-probe.invariant.0 in
+    let caught = c.in-Some-acquire_at.ensures in
+    let found = caught.found in
+    let marking = c.mark_if-in-Some-acquire_at.ensures in
+    let counted = c.probes-in-Some-acquire_at.ensures in
+    let so_far = c.loop-probe.invariant.2 in
+    let held = c.acquire_at-in-loop-probe.ensures.steps in
+    let last = marking.steps in
+    let took : Took 0 0 (i + 1) c.args.effort.now c.acquire_at-in-loop-probe.new.effort = took_then
+    i 1 c.loop-probe.invariant.1 c.acquire_at-in-loop-probe.ensures.effort (omega arith) in
+    record {
+      seat = search rules;
+      effort = took_probes (i + 1) (i + 1) took counted.probes counted.corrections counted.lost
+          (omega arith) (omega arith) (omega arith);
+      pin = search rules;
+      held = search rules;
+      found = (
+        found.0,
+        found_then _ _ _ _ _ _ _ _ _ found.0 searching.sought found.1 marking.view,
+        found.2 ∙ sym c.is_counting-in-Some-acquire_at.ensures,
+      );
+      missed = tt;
+      searches = (
+        c.in-Some-acquire_at.found,
+        finds_here c.loop-probe.invariant.4 (c.slot-slot.ensures ∙ searching.walking.probe)
+            caught.catches (counted.probes, counted.corrections, counted.lost) marking.marked
+            marking.unmarked marking.unasked marking.by marking.view,
+        c.is_counting-in-Some-acquire_at.ensures,
+      );
+      acquired = (
+        c.in-Some-acquire_at.found,
+        caught.catches.visible,
+        c.is_counting-in-Some-acquire_at.ensures,
+        among_then got c.args.seat.now c.acquire_at-in-loop-probe.new.seat
+            c.mark_if-in-Some-acquire_at.new.seat got_there (marks_add c.args.marks
+            (hit_of c.in-Some-acquire_at.found) marking.marked marking.unmarked marking.unasked),
+      );
+      marked = λ asked. (
+        c.in-Some-acquire_at.found,
+        λ unhit. let set = marking.marked asked unhit in (
+          set.0,
+          ends_after _ c.args.seat.now c.acquire_at-in-loop-probe.new.seat
+              c.mark_if-in-Some-acquire_at.new.seat (unmarked_adds before) set.1.step,
+        ),
+        λ hit. among_then got c.args.seat.now c.acquire_at-in-loop-probe.new.seat
+            c.mark_if-in-Some-acquire_at.new.seat got_there
+            (adds_none c.acquire_at-in-loop-probe.new.seat c.mark_if-in-Some-acquire_at.new.seat
+            (marking.unmarked hit)),
+      );
+      unmarked = λ unasked. unmarked_then before (unmarked_none (marking.unasked unasked));
+      steps = record {
+        visited = i + 1;
+        within = omega arith;
+        counted = counted_probes (i + 1) (i + 1) c.probes-in-Some-acquire_at.new.self took
+            counted.probes;
+        steps = omega arith;
+      };
+    }
+  where
+    got : Atomic
+    got =
+        atomic (address_of_meta c.args.table.now c.slot-slot.result) 1 0 c.in-Some-acquire_at.found
+
+    -- the reference was acquired behind all that was passed
+    got_there : Among got c.args.seat.now c.acquire_at-in-loop-probe.new.seat
+    got_there =
+        among_after got c.args.seat.now c.loop-probe.seat c.acquire_at-in-loop-probe.new.seat
+        (unmarked_adds c.loop-probe.invariant.3) c.in-Some-acquire_at.ensures.acquired
+
+    before : AddsUnmarked c.args.seat.now c.acquire_at-in-loop-probe.new.seat
+    before = unmarked_then c.loop-probe.invariant.3 c.acquire_at-in-loop-probe.ensures.adds
