@@ -17,14 +17,13 @@ use Rattle.hcc_rule.proofs.Seats.Histories.{run_is}
 use Rattle.hcc_table.proofs.Shown.{bound, ruled, same_count, same_outcome}
 
 -- What the last event of a run led from.
-run_ends : (history : List Done) (done : Done) (world last : State)
+run_ends : (history : List Done) (done : Done) (world : State) {last : State}
     → IsRun world (history ++ done ∷ []) last
     → Leads (after_all world (events_of history)) done last
-run_ends [] done world last is = subst (λ w. Leads world done w) (sym is.2) is.1
-run_ends (d ∷ ds) done world last is =
+run_ends [] done world is = subst (λ w. Leads world done w) (sym is.2) is.1
+run_ends (d ∷ ds) done world {last} is =
     let next : is.0 ≡ after world d.event = sym (ap (world_after world) is.1) in
-    subst (λ w. Leads (after_all w (events_of ds)) done last) next
-    (run_ends ds done is.0 last is.2)
+    subst (λ w. Leads (after_all w (events_of ds)) done last) next (run_ends ds done is.0 is.2)
 
 module _ {T A : Type 0} (table : RuleTable T A) (one : clients_of table ≡ 1) where
   -- A seat's event led from the world that it knew to the one that it knows.
@@ -33,7 +32,7 @@ module _ {T A : Type 0} (table : RuleTable T A) (one : clients_of table ≡ 1) w
   event_alone done a b event =
       let known : past b ≡ past a ++ done ∷ [] =
       event.0.past ∙ ap (λ os. past a ++ (os ++ done ∷ [])) (event.0.alone one) in
-      let last = run_ends (past a) done (begun_world (plan_of table)) event.1.world
+      let last = run_ends (past a) done (begun_world (plan_of table))
       (subst (λ h. IsRun (begun_world (plan_of table)) h event.1.world) known event.1.run) in
       subst (λ w. Leads (world_at table a) done w)
       (run_is (past b) (begun_world (plan_of table)) event.1.world event.1.run) last

@@ -144,9 +144,9 @@ unpacked value small =
     ∙ unpacked_from value small (words_for (length value)) 0 (omega arith) (omega arith)
 
 -- Two values of one length and the same words are one.
-pub same_value : (x y : List ℕ) → Each (λ b. b < 256) x → Each (λ b. b < 256) y
+pub same_value : {x y : List ℕ} → Each (λ b. b < 256) x → Each (λ b. b < 256) y
     → length x ≡ length y
     → payload x ≡ payload y → x ≡ y
-same_value x y small_x small_y long same =
+same_value {x} {y} small_x small_y long same =
     sym (unpacked x small_x) ∙ (ap (λ n. take n (bytes_of (payload x))) long
     ∙ (ap (λ words. take (length y) (bytes_of words)) same ∙ unpacked y small_y))

@@ -20,7 +20,7 @@ use Rattle.hcc_rule.specs.Rule.{IsRight}
 use Rattle.hcc_table.specs.Erased.{Erases, IsAtRest, IsErased}
 use Rattle.hcc_table.specs.Freed.{IsFreed}
 use Rattle.hcc_table.specs.Searched.{Searched, IsFound, Buried, Sought, is_key, times_met}
-use Rattle.hcc_table.proofs.Searches.{grows_joined, no_more}
+use Rattle.hcc_table.proofs.Searches.{grows_joined, met_then, no_more}
 use Rattle.hcc_table.proofs.Reaches.{joined_in}
 use Rattle.std.proofs.lemmas.Bool.{eq-eqb}
 use Rattle.std.proofs.lemmas.List.{append-nil}
@@ -34,8 +34,8 @@ no_added n = omega arith
 
 module _ {T : Type 0} where
   -- A search erases nothing.
-  pub erases_none : (v w : View T) → IsAtRest v → Searched v w → Erases [] 0 0 v w
-  erases_none v w rest s = record {
+  pub erases_none : {v w : View T} → IsAtRest v → Searched v w → Erases [] 0 0 v w
+  erases_none {v} {w} rest s = record {
     same = s.same ∙ (λ k. record v {
       work = record v.work {
         looked = w.work.looked;
@@ -59,16 +59,15 @@ module _ {T : Type 0} where
   }
 
   -- The client is at rest afterwards.
-  pub rests : (keys : List Key) (slots charge : ℕ) (v w : View T) → Erases keys slots charge v w
+  pub rests : {keys : List Key} {slots charge : ℕ} {v w : View T} → Erases keys slots charge v w
       → IsAtRest w
-  rests keys slots charge v w e =
-      (ap (λ (z : View T). z.work.owned) e.same, ap (λ (z : View T). z.work.trail) e.same)
+  rests e = (ap (λ (z : View T). z.work.owned) e.same, ap (λ (z : View T). z.work.trail) e.same)
 
-  -- One append_assoc another erases both.
-  pub erases_then : (keys more : List Key) (slots other charge plus : ℕ) (u v w : View T)
+  -- One after another erases both.
+  pub erases_then : {keys more : List Key} {slots other charge plus : ℕ} {u v w : View T}
       → Erases keys slots charge u v
       → Erases more other plus v w → Erases (keys ++ more) (slots + other) (charge + plus) u w
-  erases_then keys more slots other charge plus u v w a b = record {
+  erases_then {keys} {more} {slots} {other} {charge} {plus} {u} {v} {w} a b = record {
     same =
         b.same ∙ (ap (λ (z : View T). record z {
           work = record z.work {
@@ -104,22 +103,18 @@ module _ {T : Type 0} where
           glimpse = w.glimpse;
         }));
     dead = λ stamp h. b.dead stamp (a.dead stamp h);
-    met = (
-      a.met.0 ++ b.met.0,
-      b.met.1
-          ∙ (ap (λ z. z ++ b.met.0) a.met.1 ∙ append_assoc u.met a.met.0 b.met.0),
-    );
+    met = met_then u.met a.met b.met;
     taken = takes_more a.taken b.taken;
   }
     where
       sums : (a b c : ℕ) → a + b + c ≡ a + (b + c)
       sums a b c = omega arith
 
-  -- A search before it, or append_assoc it, erases no more.
-  pub erases_first : (keys : List Key) (slots charge : ℕ) (u v w : View T) → Searched u v
+  -- A search before it, or after it, erases no more.
+  pub erases_first : {keys : List Key} {slots charge : ℕ} {u v w : View T} → Searched u v
       → Erases keys slots charge v w
       → Erases keys slots charge u w
-  erases_first keys slots charge u v w a b = record {
+  erases_first {keys} {slots} {charge} {u} {v} {w} a b = record {
     same = b.same ∙ ap (λ (z : View T). record z {
       work = record z.work {
         looked = w.work.looked;
@@ -138,18 +133,14 @@ module _ {T : Type 0} where
       glimpse = w.glimpse;
     }) a.same;
     dead = λ stamp h. b.dead stamp (a.dead stamp h);
-    met = (
-      a.met.0 ++ b.met.0,
-      b.met.1
-          ∙ (ap (λ z. z ++ b.met.0) a.met.1 ∙ append_assoc u.met a.met.0 b.met.0),
-    );
+    met = met_then u.met a.met b.met;
     taken = takes_alike b.taken (sym (ap (λ (z : View T). z.gone) a.same)) refl;
   }
 
-  pub erases_last : (keys : List Key) (slots charge : ℕ) (u v w : View T)
+  pub erases_last : {keys : List Key} {slots charge : ℕ} {u v w : View T}
       → Erases keys slots charge u v → Searched v w
       → Erases keys slots charge u w
-  erases_last keys slots charge u v w a b = record {
+  erases_last {keys} {slots} {charge} {u} {v} {w} a b = record {
     same =
         b.same ∙ (ap (λ (z : View T). record z {
           work = record z.work { looked = w.work.looked; dead = w.work.dead };
@@ -174,11 +165,7 @@ module _ {T : Type 0} where
           glimpse = w.glimpse;
         }));
     dead = λ stamp h. b.dead stamp (a.dead stamp h);
-    met = (
-      a.met.0 ++ b.met.0,
-      b.met.1
-          ∙ (ap (λ z. z ++ b.met.0) a.met.1 ∙ append_assoc u.met a.met.0 b.met.0),
-    );
+    met = met_then u.met a.met b.met;
     taken = takes_alike a.taken refl (ap (λ (z : View T). z.gone) b.same);
   }
 
@@ -190,10 +177,10 @@ module _ {T : Type 0} where
       (takes_one (record { stamp = f.stamp; made = f.made }) (ap (λ (z : View T). z.gone) f.same))
 
   -- An entry that isn't warm was freed.
-  pub erases_freed : (fits : T → Key → List ℕ → Type 0) (room word charge : ℕ) (last : Option ℕ)
-      (v w : View T)
+  pub erases_freed : {fits : T → Key → List ℕ → Type 0} {room word charge : ℕ} {last : Option ℕ}
+      {v w : View T}
       → is_warm word ≡ false → IsFreed fits room word last charge v w → Erases [] 1 charge v w
-  erases_freed fits room word charge last v w cold f = record {
+  erases_freed {fits} {room} {word} {charge} {last} {v} {w} cold f = record {
     same = f.same ∙ (λ k. record v {
       work = record v.work {
         looked = w.work.looked;
@@ -229,12 +216,12 @@ module _ {T : Type 0} where
       rw (f.charged) right.small
 
   -- The entry of a record was hidden, or had been.
-  pub erases_hidden : (name word : ℕ) (r : Record) (v w : View T) → IsAtRest v
+  pub erases_hidden : (name word : ℕ) {r : Record} {v w : View T} → IsAtRest v
       → record_in name v.records ≡ Some r
       → w ≡ after_hide name word v
       → Erases (replicate (when (is_visible word) 1) (key_of r.entry)) 0 0 v w
       × (is_in r.entry.stamp w.work.dead ≡ true) × (w.records ≡ v.records)
-  erases_hidden name word r v w rest at same = (
+  erases_hidden name word {r} {v} rest at same = (
     record {
       same = same ∙ (λ k. record v {
         work = record v.work {
@@ -269,13 +256,13 @@ module _ {T : Type 0} where
       keys false = no_more v.hidden
 
   -- The same of the record of a name, and what was searched then.
-  pub hidden_then : (slot name word n : ℕ) (v a w : View T) → IsAtRest v
+  pub hidden_then : (slot name word : ℕ) {n : ℕ} (v : View T) {a w : View T} → IsAtRest v
       → n ≡ from_bool (is_visible word)
       → IsSomeAnd (record_in name v.records) (λ r. (r.slot ≡ slot) × (r.weight ≡ 1))
       → a ≡ after_hide name word v → Searched a w
       → IsSomeAnd (record_in name v.records) (λ r. Erases (replicate n (key_of r.entry)) 0 0 v w
       × (is_in r.entry.stamp w.work.dead ≡ true))
-  hidden_then slot name word n v a w rest count holds same then =
+  hidden_then slot name word {n} v {a} {w} rest count holds same then =
       by (record_in name v.records) refl holds
     where
       count_is : (b : Bool) → from_bool b ≡ when b 1
@@ -288,23 +275,22 @@ module _ {T : Type 0} where
           × (is_in r.entry.stamp w.work.dead ≡ true))
       by None is none = absurd none
       by (Some r) is some =
-          let hid = erases_hidden name word r v a rest is same in (
+          let hid = erases_hidden name word rest is same in (
             subst (λ m. Erases (replicate m (key_of r.entry)) 0 0 v w)
-                (sym (count ∙ count_is (is_visible word)))
-                (erases_last (replicate (when (is_visible word) 1) (key_of r.entry)) 0 0 v a w hid.0
+                (sym (count ∙ count_is (is_visible word))) (erases_last hid.0
                 then),
             then.dead r.entry.stamp hid.1,
           )
 
   -- The same, and it was freed.
-  pub hidden_freed : (slot name word n charge : ℕ) (v a w : View T) → IsAtRest v
+  pub hidden_freed : (slot name word : ℕ) {n charge : ℕ} (v : View T) {a w : View T} → IsAtRest v
       → n ≡ from_bool (is_visible word)
       → IsSomeAnd (record_in name v.records) (λ r. (r.slot ≡ slot) × (r.weight ≡ 1))
       → a ≡ after_hide name word v → Erases [] 1 charge a w
       → IsSomeAnd (record_in name v.records)
       (λ r. Erases (replicate n (key_of r.entry)) 1 charge v w
       × (is_in r.entry.stamp w.work.dead ≡ true))
-  hidden_freed slot name word n charge v a w rest count holds same freed =
+  hidden_freed slot name word {n} {charge} v {a} {w} rest count holds same freed =
       by (record_in name v.records) refl holds
     where
       count_is : (b : Bool) → from_bool b ≡ when b 1
@@ -317,19 +303,18 @@ module _ {T : Type 0} where
           × (is_in r.entry.stamp w.work.dead ≡ true))
       by None is none = absurd none
       by (Some r) is some =
-          let hid = erases_hidden name word r v a rest is same in
+          let hid = erases_hidden name word rest is same in
           let keys = replicate (when (is_visible word) 1) (key_of r.entry) in (
             subst (λ m. Erases (replicate m (key_of r.entry)) 1 charge v w)
-                (sym (count ∙ count_is (is_visible word)))
-                (subst (λ c. Erases keys 1 c v w) (zero-add charge)
-                (subst (λ k. Erases k 1 (0 + charge) v w) (append-nil keys)
-                (erases_then keys [] 0 1 0 charge v a w hid.0 freed))),
+                (sym (count ∙ count_is (is_visible word))) (subst (λ c. Erases keys 1 c v w)
+                (zero-add charge) (subst (λ k. Erases k 1 (0 + charge) v w) (append-nil keys)
+                (erases_then hid.0 freed))),
             freed.dead r.entry.stamp hid.1,
           )
 
   -- The entry that was found is erased.
-  module _ (fits : T → Key → List ℕ → Type 0) (room slot name n slots charge : ℕ) (key : Key)
-      (v a w : View T) (r : Record) (fresh : record_in name v.records ≡ None)
+  module _ {fits : T → Key → List ℕ → Type 0} {room slot name : ℕ} (n slots charge : ℕ) {key : Key}
+      {v a : View T} (w : View T) {r : Record} (fresh : record_in name v.records ≡ None)
       (found : IsFound fits room slot name key v a r) where
     -- what hiding what is held there told
     abbrev pub Told : Type 0
@@ -348,7 +333,7 @@ module _ {T : Type 0} where
         → IsErased key n slots charge v w
     erased_there few told left = record {
       erases =
-          erases_first (replicate n key) slots charge v a w found.searched
+          erases_first found.searched
           (subst (λ k. Erases (replicate n k) slots charge a w) found.asked (told_of told).0);
       records =
           left ∙ (ap (dropped (is_called name)) found.records
@@ -372,9 +357,9 @@ module _ {T : Type 0} where
         (told_of told).1) v.records found.one
 
   -- Nothing of a key was erased where none was found.
-  pub erased_none : (key : Key) (v w : View T) → IsAtRest v → Sought v w → IsErased key 0 0 0 v w
-  erased_none key v w rest s = record {
-    erases = erases_none v w rest s.searched;
+  pub erased_none : {key : Key} {v w : View T} → IsAtRest v → Sought v w → IsErased key 0 0 0 v w
+  erased_none {key} {v} {w} rest s = record {
+    erases = erases_none rest s.searched;
     records = s.records;
     met = (
       s.searched.met.0,

@@ -84,13 +84,14 @@ module _ {T : Type 0} where
           ]
 
   -- Where no trail goes on, each entry of the key that is held stands at a probe that was seen.
-  pub ended : (slots : ℕ) (key : Key) → MOST_SLOTS % slots ≡ 0 → (i n : ℕ) (v w : View T) → n ≡ 0
+  pub ended : (slots : ℕ) (key : Key) → MOST_SLOTS % slots ≡ 0 → (i : ℕ) {n : ℕ} (v w : View T)
+      → n ≡ 0
       → Buried key (IsBefore slots key (i + 1)) v w
       → Each (λ (r : Record). times (probe_slot slots key i)
       (trail_to slots (key_of r.entry) r.slot) ≤ n) v.records
       → Each (λ (r : Record). r.slot < slots) v.records
       → AllDead key v w
-  ended slots key power i n v w zero buried held within =
+  ended slots key power i {n} v w zero buried held within =
       each_both
       (λ (r : Record). key_of r.entry ≡ key → IsBefore slots key (i + 1) r.slot
       → is_in r.entry.stamp w.work.dead ≡ true)
@@ -141,23 +142,22 @@ module _ {T : Type 0} where
       within = λ some. absurd (omega arith);
     }
 
-    module _ (i n slot : ℕ) (walk : Walk) (seat now : SeatOf T)
-        (s : IsSearching slots key i walk seat now)
-        (there : slot ≡ bit_and walk.probe walk.mask) where
+  module _ {slots : ℕ} {key : Key} {i slot : ℕ} {walk : Walk} {seat now : SeatOf T}
+      (s : IsSearching slots key i walk seat now) (there : slot ≡ bit_and walk.probe walk.mask)
+    where
       -- the slot that is probed
       pub slot_is : slot ≡ probe_slot slots key i
       slot_is = there ∙ s.walking.probe
 
-      module _ (probed counted : SeatOf T) (same : IsSameSeat now probed)
-          (same_then : IsSameSeat probed counted)
-          (missed : Sought (view now) (view probed)
-          × Buried key (λ z. z ≡ slot) (view now) (view probed))
-          (kept : view counted ≡ view probed)
+      module _ (power : MOST_SLOTS % slots ≡ 0) (n : ℕ) {probed counted : SeatOf T}
+          (same : IsSameSeat now probed) (same_then : IsSameSeat probed counted) (missed : Sought
+          (view now) (view probed)
+          × Buried key (λ z. z ≡ slot) (view now) (view probed)) (kept : view counted ≡ view probed)
           (held : Each (λ (r : Record). times slot (trail_to slots (key_of r.entry) r.slot) ≤ n)
           (view probed).records)
           (within : Each (λ (r : Record). r.slot < slots) (view probed).records) where
         sought : Sought (view seat) (view counted)
-        sought = rw kept (sought_then (view seat) (view now) (view probed) s.sought missed.0)
+        sought = rw kept (sought_then _ _ _ s.sought missed.0)
 
         records_are : (view probed).records ≡ (view seat).records
         records_are = missed.0.records ∙ s.sought.records
@@ -170,10 +170,10 @@ module _ {T : Type 0} where
         low = rw (← records_are) within
 
         -- It goes on to the next probe.
-        pub goes_on : (next : Walk) → next.probe ≡ (walk.probe + walk.stride) % 2 ^ 64
+        pub goes_on : {next : Walk} → next.probe ≡ (walk.probe + walk.stride) % 2 ^ 64
             → next.stride ≡ walk.stride
             → next.mask ≡ walk.mask → IsSearching slots key (i + 1) next seat counted
-        goes_on next probe stride mask = record {
+        goes_on probe stride mask = record {
           same = seat_then seat now counted s.same (seat_then now probed counted same same_then);
           sought = sought;
           walking = record {
@@ -191,18 +191,19 @@ module _ {T : Type 0} where
         pub ends : n ≡ 0 → IsMissed key (view seat) (view counted)
         ends zero = record {
           sought = sought;
-          dead = ended slots key power i n (view seat) (view counted) zero more
+          dead = ended slots key power i (view seat) (view counted) zero more
               (rw (← records_are, ← slot_is) held) low;
         }
 
-    -- It ends after all probes.
-    pub ends_all : (i : ℕ) (walk : Walk) (seat now : SeatOf T) → 0 < slots → slots ≤ i → i ≤ slots
-        → IsSearching slots key i walk seat now → IsMissed key (view seat) (view now)
-    ends_all i walk seat now some least most s =
-        let same : i ≡ slots = omega arith in
-        record {
-          sought = s.sought;
-          dead = all_seen slots key power (view seat) (view now)
-              (subst (λ z. Buried key (IsBefore slots key z) (view seat) (view now)) same s.buried)
-              (s.within (omega arith));
-        }
+  -- It ends after all probes.
+  pub ends_all : {slots : ℕ} {key : Key} → MOST_SLOTS % slots ≡ 0 → {i : ℕ} {walk : Walk}
+      {seat now : SeatOf T} → 0 < slots → slots ≤ i → i ≤ slots
+      → IsSearching slots key i walk seat now → IsMissed key (view seat) (view now)
+  ends_all {slots} {key} power {i} {walk} {seat} {now} some least most s =
+      let same : i ≡ slots = omega arith in
+      record {
+        sought = s.sought;
+        dead = all_seen slots key power (view seat) (view now)
+            (subst (λ z. Buried key (IsBefore slots key z) (view seat) (view now)) same s.buried)
+            (s.within (omega arith));
+      }

@@ -23,7 +23,7 @@ use Rattle.hcc_rule.specs.declared.key.Key.{Key}
 use Rattle.hcc_rule.specs.declared.table.RuleTable.{RuleTable}
 use Rattle.hcc_rule.specs.Acts.{events_of, past}
 use Rattle.hcc_rule.specs.Callers.{clients_of, plan_of, slots_of, world_at}
-use Rattle.hcc_rule.specs.Events.{occupy_done, pass_done, phase_in}
+use Rattle.hcc_rule.specs.Events.{phase_in}
 use Rattle.hcc_rule.specs.Opening.{begun_world}
 use Rattle.hcc_rule.specs.Probes.{probe_slot}
 use Rattle.hcc_rule.specs.Rule.{setup_of}
@@ -49,40 +49,40 @@ abbrev SameTaken : State → State → Type 0
 SameTaken w next = (s : ℕ) → is_taken (slice_get next.slots s) ≡ is_taken (slice_get w.slots s)
 
 -- a look changes no slot
-look_keeps : (w next : State) (client slot : ℕ) (reply : Reply)
+look_keeps : (w : State) {next : State} (client slot : ℕ) {reply : Reply}
     → look_of w client slot ≡ Ok (reply, next) → w.slots ≡ next.slots
-look_keeps w next client slot reply is =
+look_keeps w client slot is =
     let first = bound (slot_at w slot) _ _ is in
     let second = bound (live_at w client) _ _ first.2 in
     ap (λ z. z.1.slots) (same_outcome _ _ second.2)
 
 -- a list of one member has it at the front
-at_front : {X : Type 0} (xs : List X) (i : ℕ) (x : X) → length xs ≡ 1 → slice_get xs i ≡ Some x
+at_front : {X : Type 0} (xs : List X) (i : ℕ) {x : X} → length xs ≡ 1 → slice_get xs i ≡ Some x
     → i ≡ 0
-at_front [] i x one at = cc
-at_front (y ∷ ys) zero x one at = refl
-at_front (y ∷ []) (suc i) x one at = cc
-at_front (y ∷ z ∷ zs) (suc i) x one at = absurd (omega arith)
+at_front [] i one at = cc
+at_front (y ∷ ys) zero one at = refl
+at_front (y ∷ []) (suc i) one at = cc
+at_front (y ∷ z ∷ zs) (suc i) one at = absurd (omega arith)
 
 -- who owns a slot is there, and doesn't own nothing
-owner_there : (o : Option Client) (slot : ℕ) → owned_by o ≡ Some slot
+owner_there : (o : Option Client) {slot : ℕ} → owned_by o ≡ Some slot
     → (c : Client) × (o ≡ Some c) × (owned_slot c.owned ≡ Some slot)
-owner_there None slot is = cc
-owner_there (Some c) slot is = (c, refl, is)
+owner_there None is = cc
+owner_there (Some c) is = (c, refl, is)
 
-owns_none : (o : Owned) (slot : ℕ) → owned_slot o ≡ Some slot → owns_nothing o ≡ true → ⊥
-owns_none owned.Nothing slot is none = cc
-owns_none (owned.ForBuilding s) slot is none = cc
-owns_none (owned.ForFreeing s) slot is none = cc
+owns_none : (o : Owned) {slot : ℕ} → owned_slot o ≡ Some slot → owns_nothing o ≡ true → ⊥
+owns_none owned.Nothing is none = cc
+owns_none (owned.ForBuilding s) is none = cc
+owns_none (owned.ForFreeing s) is none = cc
 
 -- An occupy of a slot that isn't empty, where there is one client: the slot has an entry, and each
 -- slot stays.
-occupy_takes : (w next : State) (client slot word : ℕ) → Lawful w → length w.clients ≡ 1
+occupy_takes : {w next : State} (client slot word : ℕ) → Lawful w → length w.clients ≡ 1
     → outcome_of w (events.Occupy client slot)
     ≡ Ok ((if is_empty word then replies.Taken else replies.Saw (phase_in word)), next)
     → is_empty word ≡ false
     → SameTaken w next × (is_taken (slice_get next.slots slot) ≡ true)
-occupy_takes w next client slot word l one is taken =
+occupy_takes {w} {next} client slot word l one is taken =
     let first = bound (slot_at w slot) _ _ (ruled w (events.Occupy client slot) _ is) in
     let second = bound (live_at w client) _ _ first.2 in
     let third = bound (allow (owns_nothing second.0.owned)) _ _ second.2 in
@@ -95,7 +95,7 @@ occupy_takes w next client slot word l one is taken =
         → look_of w client slot ≡ Ok (replies.Saw (phase_in word), next)
         → SameTaken w next × (is_taken (slice_get next.slots slot) ≡ true)
     stays seen at entry look =
-        let same : w.slots ≡ next.slots = look_keeps w next client slot _ look in (
+        let same : w.slots ≡ next.slots = look_keeps w client slot look in (
           λ s. ap (λ xs. is_taken (slice_get xs s)) (sym same),
           ap (λ xs. is_taken (slice_get xs slot)) (sym same) ∙ ap is_taken at ∙ entry,
         )
@@ -109,16 +109,15 @@ occupy_takes w next client slot word l one is taken =
         ap (λ z. z.0) (same_outcome _ _ reply) in
         absurd (let never : ⊥ = cc in never)
     by found (slots.Building other strays) at live free reply =
-        let owner = owner_there (slice_get w.clients other) slot
+        let owner = owner_there (slice_get w.clients other)
         (l.owners.owns slot other (ap owner_in at)) in
-        let there : other ≡ client =
-        at_front w.clients other owner.0 one owner.1
-        ∙ sym (at_front w.clients client found one live) in
+        let there : other ≡ client = at_front w.clients other one owner.1
+        ∙ sym (at_front w.clients client one live) in
         let both : Some owner.0 ≡ Some found =
         sym owner.1 ∙ ap (slice_get w.clients) there ∙ live in
         let same : owner.0 ≡ found = cc in
-        absurd (owns_none found.owned slot
-        (ap (λ (c : Client). owned_slot c.owned) (sym same) ∙ owner.2) free)
+        absurd
+        (owns_none found.owned (ap (λ (c : Client). owned_slot c.owned) (sym same) ∙ owner.2) free)
     by found (slots.Shareable r) at live free reply = stays (slots.Shareable r) at refl reply
 
 -- Where each slot has an entry, there are as many entries as slots.
@@ -141,9 +140,9 @@ all_taken (x ∷ xs) each =
 limit_low : (n : ℕ) → 0 < n → n * 84 / 100 < n
 limit_low n some = omega arith
 
-full_never : (w : State) → Lawful w → 0 < length w.slots
+full_never : {w : State} → Lawful w → 0 < length w.slots
     → ((s : ℕ) → s < length w.slots → is_taken (slice_get w.slots s) ≡ true) → ⊥
-full_never w l some each =
+full_never {w} l some each =
     let all : total taken_by_slot w.slots ≡ length w.slots = all_taken w.slots each in
     let size = l.sized.slot_count in
     let few : total taken_by_slot w.slots + total taken_by w.clients ≤ w.setup.slots * 84 / 100 =
@@ -176,16 +175,15 @@ module _ {T A : Type 0} (fits : T → Key → List ℕ → Type 0) (table : Rule
 
   module _ (key : Key) (name weight : ℕ) where
     -- A slot that an insertion passed has an entry,
-    passed_takes : (slot word : ℕ) (e f : Effort) (a b : SeatOf T)
+    passed_takes : {slot word : ℕ} {e f : Effort} {a b : SeatOf T}
         → Passes fits table key name (FindsTaken table slot) slot weight word e f a b
         → SameTaken (world_at table a) (world_at table b) × Taken b slot
-    passed_takes slot word e f a b h = by (is_visible h.seen) refl
+    passed_takes {slot} {word} {e} {f} {a} {b} h = by (is_visible h.seen) refl
       where
         found : SameTaken (world_at table a) (world_at table h.mid) × Taken h.mid slot
         found =
-            occupy_takes (world_at table a) (world_at table h.mid) (view a).client slot h.seen
-            (lawful_at a) (clients_at a)
-            (event_alone table one (occupy_done slot h.seen (view a)) a h.mid h.first.3) h.first.2
+            occupy_takes (view a).client slot h.seen (lawful_at a) (clients_at a)
+            (event_alone table one _ a h.mid h.first.3) h.first.2
 
         by : (shown : Bool) → is_visible h.seen ≡ shown
             → SameTaken (world_at table a) (world_at table b) × Taken b slot
@@ -193,8 +191,7 @@ module _ {T A : Type 0} (fits : T → Key → List ℕ → Type 0) (table : Rule
             subst (λ z. SameTaken (world_at table a) (world_at table z) × Taken z slot)
             (sym (h.unshown off).2) found
         by true on =
-            let same = still_alone is_taken leaves_taken table one h.mid b
-            (seeks_still table h.mid b
+            let same = still_alone leaves_taken one h.mid b (seeks_still table h.mid b
             (entry_seeks fits table key name slot weight word e f h.mid b (h.shown on))) in
             (λ s. same s ∙ found.0 s, same slot ∙ found.1)
 
@@ -210,10 +207,10 @@ module _ {T A : Type 0} (fits : T → Key → List ℕ → Type 0) (table : Rule
     probes_take i (p ∷ ps) e f a b h =
         let at = h.2 in
         let slot = probe_slot (slots_of table) key i in
-        let first = passed_takes slot p at.between h.0 a at.mid at.passes in
+        let first = passed_takes at.passes in
         let rest = probes_take (i + 1) ps h.0 f h.1 b h.3 in
-        let on = still_alone is_taken leaves_taken table one at.mid h.1
-        (goes_event table is_still (pass_done slot (view at.mid)) at.mid h.1 at.event refl) in (
+        let on = still_alone leaves_taken one at.mid h.1
+        (goes_event table is_still _ at.mid h.1 at.event refl) in (
           λ s. rest.0 s ∙ on s ∙ first.0 s,
           λ k low high. elim (cases_lt i k) [
             | inl later ↦ rest.1 k (omega arith) (omega arith)
@@ -225,10 +222,10 @@ module _ {T A : Type 0} (fits : T → Key → List ℕ → Type 0) (table : Rule
         )
 
     -- So an insertion never finds all slots taken.
-    pub never_full : (before after : Effort) (old new : SeatOf T)
+    pub never_full : {before after : Effort} {old new : SeatOf T}
         → Inserts fits table key name weight NoSlot before after old new → ⊥
-    never_full before after old new m =
-        full_never (world_at table m.done) (lawful_at m.done)
+    never_full {before} {after} {old} m =
+        full_never (lawful_at m.done)
         (let size = slots_at table m.done in let some = table.limits.some_slots in omega arith)
         (λ s less. every s (let size = slots_at table m.done in omega arith))
       where
@@ -239,8 +236,7 @@ module _ {T A : Type 0} (fits : T → Key → List ℕ → Type 0) (table : Rule
 
         last : SameTaken (world_at table m.mid) (world_at table m.done)
             × Taken m.done (probe_slot (slots_of table) key (length m.earlier))
-        last = passed_takes (probe_slot (slots_of table) key (length m.earlier)) m.tries.0 m.counted
-            after m.mid m.done m.tries.1
+        last = passed_takes m.tries.1
 
         at : (i : ℕ) → i < slots_of table → Taken m.done (probe_slot (slots_of table) key i)
         at i inside = elim (cases_lt i (length m.earlier)) [

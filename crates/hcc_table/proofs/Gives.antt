@@ -29,10 +29,10 @@ use Rattle.hcc_table.proofs.Logs.{among_after, among_first}
 use Rattle.hcc_table.proofs.Searches.{searched_then}
 
 -- one of a list that passes is found by a search for any
-any_found : {A : Type 0} (p q : A → Bool) (xs : List A) (x : A) → find q xs ≡ Some x → p x ≡ true
+any_found : {A : Type 0} (p q : A → Bool) (xs : List A) {x : A} → find q xs ≡ Some x → p x ≡ true
     → list_any p xs ≡ true
-any_found p q [] x found passes = cc
-any_found p q (y ∷ ys) x found passes = by (q y) (any_found p q ys x) found
+any_found p q [] found passes = cc
+any_found p q (y ∷ ys) {x} found passes = by (q y) (any_found p q ys) found
   where
     later : (b : Bool) → list_any p ys ≡ true → (b || list_any p ys) ≡ true
     later true h = refl
@@ -44,12 +44,12 @@ any_found p q (y ∷ ys) x found passes = by (q y) (any_found p q ys x) found
     by true rest found = let same : y ≡ x = cc in ap (λ b. b || list_any p ys) (ap p same ∙ passes)
     by false rest found = later (p y) (rest found passes)
 
-module _ {T : Type 0} (address left : ℕ) (due : Bool) (before after : Effort) (a b : SeatOf T) where
+module _ {T : Type 0} {address left : ℕ} {due : Bool} {before after : Effort} {a b : SeatOf T} where
   -- Where freeing was due, it was tried.
-  pub tried_due : (A B : Type 0) (o : Option ℕ) → due ≡ true → IfSome o (λ _. after ≡ before)
+  pub tried_due : (A B : Type 0) {o : Option ℕ} → due ≡ true → IfSome o (λ _. after ≡ before)
       → IfNone o (A × B × Lost 1 1 before after) → TriesToTake address left o a b
       → TriedWhereDue address left due o before after a b
-  tried_due A B o is won lost tried = record {
+  tried_due A B {o} is won lost tried = record {
     won = by_won o won;
     lost = by_lost o lost;
     same = λ not_due. absurd (no not_due);
@@ -105,16 +105,18 @@ module _ {T : Type 0} where
       by None is none = absurd none
       by (Some r) is on =
           later (looks_at v.work slot) (list_any (is_on slot) v.records)
-          (any_found (is_on slot) (is_called held) v.records r is (eq-eqb r.slot slot on))
+          (any_found (is_on slot) (is_called held) v.records is (eq-eqb r.slot slot on))
 
   -- One more reference is on the entry that is held there.
-  pub one_more : (fits : T → Key → List ℕ → Type 0) (room slot held name word : ℕ) (v w : View T)
+  pub one_more : {fits : T → Key → List ℕ
+      → Type 0} {room slot : ℕ} (held : ℕ) {name word : ℕ} {v w : View T}
       → IsSomeAnd (record_in held v.records) (λ r. r.slot ≡ slot)
       → Reached fits room slot 1 name word v w
       → (r : Record) × (w.records ≡ v.records ++ r ∷ []) × (r.slot ≡ slot) × (r.name ≡ name)
       × (r.weight ≡ 1)
       × (r.counting ≡ is_counting word) × IfSome (record_in held v.records) (λ q. r.entry ≡ q.entry)
-  one_more fits room slot held name word v w holds h = by (record_in held v.records) refl holds
+  one_more {slot = slot} held {name} {word} {v} {w} holds h = by (record_in held v.records) refl
+      holds
     where
       by : (o : Option Record) → record_in held v.records ≡ o → IsSomeAnd o (λ r. r.slot ≡ slot)
           → (r : Record) × (w.records ≡ v.records ++ r ∷ []) × (r.slot ≡ slot) × (r.name ≡ name)
@@ -130,19 +132,20 @@ module _ {T : Type 0} where
           (record_of slot 1 name word got.0, got.2, refl, refl, refl, refl, sym same)
 
 -- What is due though nobody asks for it is not visible.
-unseen_due : (s r e v : Bool) → (s && r && (e || not v)) ≡ true → e ≡ false → v ≡ false
-unseen_due s r e false h kept = refl
-unseen_due false r e true h kept = cc
-unseen_due true false e true h kept = cc
-unseen_due true true e true h kept = cc
+unseen_due : (s r : Bool) {e : Bool} (v : Bool) → (s && r && (e || not v)) ≡ true → e ≡ false
+    → v ≡ false
+unseen_due s r false h kept = refl
+unseen_due false r true h kept = cc
+unseen_due true false true h kept = cc
+unseen_due true true true h kept = cc
 
-module _ {T : Type 0} (fits : T → Key → List ℕ → Type 0) (room : ℕ) (v b w : View T)
+module _ {T : Type 0} (fits : T → Key → List ℕ → Type 0) (room : ℕ) {v b : View T} (w : View T)
     (before : Searched v b) (met : b.met ≡ v.met) (glimpse : b.glimpse ≡ v.glimpse) where
   -- An entry that is freed after a look, or after a reference was given back, is freed of the view
   -- before.
-  pub freed_after : (word charge : ℕ) → IsFreed fits room word None charge b w
+  pub freed_after : {word charge : ℕ} → IsFreed fits room word None charge b w
       → IsFreed fits room word None charge v w
-  freed_after word charge h = record {
+  freed_after {word} {charge} h = record {
     stamp = h.stamp;
     made = h.made;
     taken = record {
@@ -189,8 +192,8 @@ module _ {T : Type 0} (fits : T → Key → List ℕ → Type 0) (room : ℕ) (v
       let one = atomic address word CONSTRUCTION_WORD word in (
         word,
         among_after one a c d adds (among_first one c d tried.1),
-        freed_after word charge freed.0,
-        unseen_due (is_shareable word) (refs_of word == 0) erase (is_visible word) due,
+        freed_after freed.0,
+        unseen_due (is_shareable word) (refs_of word == 0) (is_visible word) due,
         freed.2 ∙ sym looked,
       )
 

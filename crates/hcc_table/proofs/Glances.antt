@@ -48,10 +48,10 @@ module _ {T A : Type 0} (table : RuleTable T A) (slot : ℕ) where
       (entry : Entry) × (shown_at (world_at table seat) slot ≡ Some entry) × (entry.stamp ≡ stamp)
 
   -- the event of a peek that found it so
-  found_shown : (stamp : Stamp) (a b : SeatOf T)
+  found_shown : {stamp : Stamp} (a b : SeatOf T)
       → IsEvent table (peek_done slot (Some stamp) (view a)) a b → ShowsStamp stamp b
-  found_shown stamp a b event =
-      let led = event_leads table (peek_done slot (Some stamp) (view a)) a b event in
+  found_shown {stamp} a b event =
+      let led = event_leads table _ a b event in
       peek_shows led.0 (world_at table b) (view a).client slot stamp led.1
 
   -- what the first glance tells where the word is visible
@@ -66,10 +66,10 @@ module _ {T A : Type 0} (table : RuleTable T A) (slot : ℕ) where
           glimpse = Some (record { slot = slot; word = stamped; stood = now });
         }
 
-  pub first_glance : (stamped word : ℕ) (v : View T) (a b : SeatOf T)
+  pub first_glance : {stamped : ℕ} (word : ℕ) (v : View T) {a b : SeatOf T}
       → view a ≡ after_glimpse slot stamped v → IsGlance word a b → is_visible word ≡ true
       → FirstGlance stamped a b
-  first_glance stamped word v a b glimpsed h visible = by h.0 h.2 told
+  first_glance {stamped} word v {a} {b} glimpsed h visible = by h.0 h.2 told
     where
       g : Glimpse
       g = record { slot = slot; word = stamped; stood = stood.Unseen }
@@ -83,7 +83,7 @@ module _ {T A : Type 0} (table : RuleTable T A) (slot : ℕ) where
       by None event told = let bad : true ≡ false = sym visible ∙ told.0 in cc
       by (Some stamp) event told = record {
         stamp = stamp;
-        shows = found_shown stamp a b event;
+        shows = found_shown a b event;
         alive = told.1;
         now = told.2.0;
         stood = told.2.1;
@@ -91,12 +91,12 @@ module _ {T A : Type 0} (table : RuleTable T A) (slot : ℕ) where
       }
 
   -- the last one finds the same entry, where the stamp word is the same behind it
-  pub last_glance : (stamp : Stamp) (word again : ℕ) (g : Glimpse) (a b : SeatOf T)
+  pub last_glance : {stamp : Stamp} (word : ℕ) {again : ℕ} {g : Glimpse} (a b : SeatOf T)
       → (view a).glimpse ≡ Some g → (g.stood ≡ stood.Entry stamp) ⊎ (g.stood ≡ stood.Another)
       → IsGlance word a b → is_visible word ≡ true
       → IfSome (view b).glimpse (λ z. z.stood ≡ stood.Another → again ≢ z.word)
       → again ≡ g.word → ShowsStamp stamp b
-  last_glance stamp word again g a b glimpse before h visible apart same = by h.0 h.2 told
+  last_glance {stamp} word {again} {g} a b glimpse before h visible apart same = by h.0 h.2 told
     where
       told : Glanced word h.0 g (view a) (view b)
       told = subst (λ o. IfSome o (λ z. Glanced word h.0 z (view a) (view b))) glimpse h.1
@@ -119,19 +119,19 @@ module _ {T A : Type 0} (table : RuleTable T A) (slot : ℕ) where
             where
               entry : GoesOn last (stood.Entry stamp) told.2.0 → ShowsStamp stamp b
               entry (inl one) =
-                  let found = found_shown last a b event in (found.0, found.1, found.2 ∙ one.1)
+                  let found = found_shown a b event in (found.0, found.1, found.2 ∙ one.1)
               entry (inr gone) = absurd (stays gone)
           known s is (inr other) goes =
               absurd (stays (subst (λ z. GoesOn last z told.2.0) other goes))
 
   -- What holds of the entry that stood there once between two moments, if one stood there, holds of
   -- the one that stands there at both.
-  pub stood_between : (P : Entry → Type 0) (first a b last : SeatOf T) (entry later : Entry)
+  pub stood_between : {P : Entry → Type 0} {first a b last : SeatOf T} {entry later : Entry}
       → ((events : List Event) → StandsBetween (world_at table first) events)
       → Seeks table first a → Seeks table b last → PeeksOnce table slot P a b
       → entry_at (world_at table first) slot ≡ Some entry
       → entry_at (world_at table last) slot ≡ Some later → later.stamp ≡ entry.stamp → P entry
-  stood_between P first a b last entry later between before behind h here there same =
+  stood_between {P} {first} {a} {b} {last} {entry} {later} between before behind h here there same =
       subst P (sym one) (subst (λ o. IfSome o P) held h.2)
     where
       led : (more : List Done) × (past a ≡ past first ++ more)
@@ -182,22 +182,22 @@ module _ {T A : Type 0} (table : RuleTable T A) (slot : ℕ) where
 
 -- What is left of the view, and that only loads were made.
 module _ {T A : Type 0} (table : RuleTable T A) where
-  pub reads_then : (a b c : SeatOf T) → Reads table a b → Reads table b c → Reads table a c
-  reads_then a b c h g = record {
+  pub reads_then : {a b c : SeatOf T} → Reads table a b → Reads table b c → Reads table a c
+  reads_then {a} {b} {c} h g = record {
     loads = loads_then table a b c h.loads g.loads;
-    sought = sought_then (view a) (view b) (view c) h.sought g.sought;
+    sought = sought_then _ _ _ h.sought g.sought;
   }
 
   -- loads that leave the view
-  pub reads_kept : (a b : SeatOf T) → view b ≡ view a → OnlyLoads table a b → Reads table a b
-  reads_kept a b kept loads = record {
+  pub reads_kept : {a b : SeatOf T} → view b ≡ view a → OnlyLoads table a b → Reads table a b
+  reads_kept {a} kept loads = record {
     loads = loads;
     sought = subst (λ v. Sought (view a) v) (sym kept) (searched_refl (view a));
   }
 
   -- a glimpse changes nothing else
-  glimpse_sought : (v w : View T) → w ≡ record v { glimpse = w.glimpse } → Sought v w
-  glimpse_sought v w same = record {
+  glimpse_sought : {v w : View T} → w ≡ record v { glimpse = w.glimpse } → Sought v w
+  glimpse_sought {v} {w} same = record {
     searched = record {
       same = same ∙ (λ k. record v {
         work = record v.work {
@@ -239,8 +239,7 @@ module _ {T A : Type 0} (table : RuleTable T A) where
           },
         )
         by (Some stamp) told = (
-          glimpse_sought (view a) (view b)
-              (told.2.2 ∙ ap (λ o. record (view a) { glimpse = o })
+          glimpse_sought (told.2.2 ∙ ap (λ o. record (view a) { glimpse = o })
               (sym (ap (λ (z : View T). z.glimpse) told.2.2))),
           record {
             glimpse = record g.glimpse { stood = told.2.0 };
@@ -250,16 +249,16 @@ module _ {T A : Type 0} (table : RuleTable T A) where
         )
 
     -- the loads up to the first glance
-    pub first_reads : (stamped word : ℕ) (old peeked seen : SeatOf T)
+    pub first_reads : {stamped : ℕ} (word : ℕ) {old : SeatOf T} (peeked : SeatOf T) {seen : SeatOf
+        T}
         → view peeked ≡ after_glimpse slot stamped (view old) → IsPeek table slot old peeked
         → IsGlance table slot word peeked seen → Reads table old seen × HasGlimpse stamped seen
-    first_reads stamped word old peeked seen glimpsed one h = (
+    first_reads {stamped} word {old} peeked {seen} glimpsed one h = (
       record {
-        loads = loads_then table old peeked seen (peek_loads table slot old peeked one)
-            (peek_loads table slot peeked seen (h.0, h.2));
-        sought = sought_then (view old) (view peeked) (view seen)
-            (glimpse_sought (view old) (view peeked)
-            (glimpsed ∙ ap (λ o. record (view old) { glimpse = o })
+        loads = loads_then table old peeked seen (peek_loads table slot peeked one)
+            (peek_loads table slot seen (h.0, h.2));
+        sought = sought_then _ _ _ (glimpse_sought (glimpsed ∙ ap
+            (λ o. record (view old) { glimpse = o })
             (sym (ap (λ (z : View T). z.glimpse) glimpsed)))) both.0;
       },
       both.1,
@@ -274,41 +273,39 @@ module _ {T A : Type 0} (table : RuleTable T A) where
             }) h
 
     -- those from the last glance on
-    pub last_reads : (stamped word : ℕ) (loaded seen new : SeatOf T) → HasGlimpse stamped loaded
+    pub last_reads : {stamped : ℕ} (word : ℕ) {loaded : SeatOf T} (seen : SeatOf T) {new : SeatOf T}
+        → HasGlimpse stamped loaded
         → IsGlance table slot word loaded seen → view new ≡ view seen → IsPeek table slot seen new
         → Reads table loaded new
-    last_reads stamped word loaded seen new g h kept one =
-        reads_then loaded seen new
-        (record {
-          loads = peek_loads table slot loaded seen (h.0, h.2);
+    last_reads {stamped} word {loaded} seen {new} g h kept one =
+        reads_then (record {
+          loads = peek_loads table slot seen (h.0, h.2);
           sought = (glanced stamped word loaded seen g h).0;
-        })
-        (reads_kept seen new kept (peek_loads table slot seen new one))
+        }) (reads_kept kept (peek_loads table slot new one))
 
     -- what is glimpsed stays while the view does
-    pub glimpse_kept : (stamped : ℕ) (a b : SeatOf T) → view b ≡ view a → HasGlimpse stamped a
+    pub glimpse_kept : {stamped : ℕ} {a b : SeatOf T} → view b ≡ view a → HasGlimpse stamped a
         → HasGlimpse stamped b
-    glimpse_kept stamped a b kept g = record {
+    glimpse_kept kept g = record {
       glimpse = g.glimpse;
       there = ap (λ (z : View T). z.glimpse) kept ∙ g.there;
       word = g.word;
     }
 
     -- all of them, up to the last load of the stamp word
-    pub all_reads : (stamped word last : ℕ) (old peeked seen loaded glanced new : SeatOf T)
+    pub all_reads : {stamped : ℕ} (word last : ℕ) {old : SeatOf T} (peeked : SeatOf T) {seen loaded
+        : SeatOf T} (glanced : SeatOf T) {new : SeatOf T}
         → view peeked ≡ after_glimpse slot stamped (view old) → IsPeek table slot old peeked
         → IsGlance table slot word peeked seen → view loaded ≡ view seen
         → OnlyLoads table seen loaded → IsGlance table slot last loaded glanced
         → view new ≡ view glanced → IsPeek table slot glanced new → Reads table old new
-    all_reads stamped word last old peeked seen loaded glanced new glimpsed one h kept loads again
-        same end =
-        let first = first_reads stamped word old peeked seen glimpsed one h in
-        reads_then old seen new first.0
-        (reads_then seen loaded new (reads_kept seen loaded kept loads)
-        (last_reads stamped last loaded glanced new (glimpse_kept stamped seen loaded kept first.1)
-        again same end))
+    all_reads {stamped} word last {old} peeked {seen} {loaded} glanced {new} glimpsed one h kept
+        loads again same end =
+        let first = first_reads word peeked glimpsed one h in
+        reads_then first.0 (reads_then (reads_kept kept loads)
+        (last_reads last glanced (glimpse_kept kept first.1) again same end))
 
 -- a key is its halves
-pub same_key : (entry : Entry) (key : Key) → entry.key0 ≡ key.w0 → entry.key1 ≡ key.w1
+pub same_key : (entry : Entry) {key : Key} → entry.key0 ≡ key.w0 → entry.key1 ≡ key.w1
     → key_of entry ≡ key
-same_key entry key first second = rw (first, second) refl
+same_key entry first second = rw (first, second) refl

@@ -51,8 +51,8 @@ room_before n xs (Some s) (Some t) put room =
 
 module _ {T : Type 0} where
   -- The client took nothing, and nothing was put there.
-  pub hands_none : (s : Option Shelf) {v w : View T} → w.gone ≡ v.gone → Hands s s v w
-  hands_none s {v} same =
+  pub hands_none : {s : Option Shelf} {v w : View T} → w.gone ≡ v.gone → Hands s s v w
+  hands_none {s} {v} same =
       record { these = []; gone = same ∙ sym (append-nil v.gone); puts = puts_none s }
 
   -- It took some, and then more.
@@ -122,39 +122,41 @@ first_word value some = by (words_for (length value)) refl
     by zero none = absurd (omega arith)
     by (suc n) is = (map (payload_word value) (range_with_len 1 n), refl)
 
-module _ {T : Type 0} (slots slot word : ℕ) (name : Option ℕ) (stamp : Stamp) (made : Made)
-    (u v w : View T) (took : v ≡ after_free slots slot word name stamp made u) where
-  -- An entry that was taken lies in the slot with a word of its value,
-  pub taken_word : (room : ℕ) → 0 < length made.value → length made.value ≤ 8 * room
-      → HasWord room v
-  taken_word room some short =
-      let first = first_word made.value some in
-      let long = ap (λ (z : View T). length z.written) took in
-      let words = ap length first.1 in
-      (omega arith, omega arith)
+module _ {T : Type 0} (slots : ℕ) {slot : ℕ} (word : ℕ) (name : Option ℕ) (stamp : Stamp)
+    (made : Made) (u : View T) {v : View T} (w : View T)
+    (took : v ≡ after_free slots slot word name stamp made u)
+  where
+    -- An entry that was taken lies in the slot with a word of its value,
+    pub taken_word : {room : ℕ} → 0 < length made.value → length made.value ≤ 8 * room
+        → HasWord room v
+    taken_word some short =
+        let first = first_word made.value some in
+        let long = ap (λ (z : View T). length z.written) took in
+        let words = ap length first.1 in
+        (omega arith, omega arith)
 
-  -- and is what was put on the list.
-  pub hands_taken : (s t : Option Shelf) → (is_some s ≡ true → 0 < length made.value)
-      → w.gone ≡ v.gone → Puts (owned_freed v ∷ []) s t → Hands s t u w
-  hands_taken s t whole same put = record {
-    these = record { stamp = stamp; made = made } ∷ [];
-    gone = same ∙ ap (λ (z : View T). z.gone) took;
-    puts = by s t whole put;
-  }
-    where
-      alike : 0 < length made.value → owned_freed v ≡ as_freed (record {
-        stamp = stamp;
-        made = made;
-      })
-      alike some =
-          ap owned_freed took ∙ ap (λ l. record { key = made.key; word = slice_index l 0 })
-          (first_word made.value some).1
+    -- and is what was put on the list.
+    pub hands_taken : {s t : Option Shelf} → (is_some s ≡ true → 0 < length made.value)
+        → w.gone ≡ v.gone → Puts (owned_freed v ∷ []) s t → Hands s t u w
+    hands_taken {s} {t} whole same put = record {
+      these = record { stamp = stamp; made = made } ∷ [];
+      gone = same ∙ ap (λ (z : View T). z.gone) took;
+      puts = by s t whole put;
+    }
+      where
+        alike : 0 < length made.value → owned_freed v ≡ as_freed (record {
+          stamp = stamp;
+          made = made;
+        })
+        alike some =
+            ap owned_freed took ∙ ap (λ l. record { key = made.key; word = slice_index l 0 })
+            (first_word made.value some).1
 
-      by : (s t : Option Shelf) → (is_some s ≡ true → 0 < length made.value)
-          → Puts (owned_freed v ∷ []) s t
-          → Puts (as_freed (record { stamp = stamp; made = made }) ∷ []) s t
-      by None None whole put = tt
-      by (Some a) (Some b) whole put =
-          (put.0 ∙ ap (λ f. a.freed ++ f ∷ []) (alike (whole refl)), put.1, put.2, put.3)
-      by None (Some b) whole put = absurd put
-      by (Some a) None whole put = absurd put
+        by : (s t : Option Shelf) → (is_some s ≡ true → 0 < length made.value)
+            → Puts (owned_freed v ∷ []) s t
+            → Puts (as_freed (record { stamp = stamp; made = made }) ∷ []) s t
+        by None None whole put = tt
+        by (Some a) (Some b) whole put =
+            (put.0 ∙ ap (λ f. a.freed ++ f ∷ []) (alike (whole refl)), put.1, put.2, put.3)
+        by None (Some b) whole put = absurd put
+        by (Some a) None whole put = absurd put

@@ -22,9 +22,9 @@ use Rattle.hcc_table.specs.Searched.{Grows}
 use Rattle.hcc_table.proofs.Probings.{HasSeen, each_front, more_seen, one_longer, seen_none, seen_then, split_last}
 
 -- a sum, and one more
-total_more : {A : Type 0} (f : A → ℕ) (xs : List A) (x : A) (all here sum : ℕ)
+total_more : {A : Type 0} (f : A → ℕ) (xs : List A) {x : A} {all here sum : ℕ}
     → all ≡ total f xs → here ≡ f x → sum ≡ all + here → sum ≡ total f (xs ++ x ∷ [])
-total_more f xs x all here sum old one is = let split = total-append f xs (x ∷ []) in omega arith
+total_more f xs {x} old one is = let split = total-append f xs (x ∷ []) in omega arith
 
 module _ {T A : Type 0} (fits : T → Key → List ℕ → Type 0) (table : RuleTable T A) (key : Key)
     (name : ℕ) where
@@ -44,9 +44,9 @@ module _ {T A : Type 0} (fits : T → Key → List ℕ → Type 0) (table : Rule
     pub dead : Each (IsDeadIn (view now).work.dead) visits.seen
     pub roomy : Each (λ (p : HideProbe). room ≡ true → p.room ≡ true) visits.seen
 
-  pub hid_none : (room : Bool) (effort : Effort) (seat : SeatOf T)
+  pub hid_none : {room : Bool} {effort : Effort} {seat : SeatOf T}
       → HasHid 0 room nothing_erased effort effort seat seat
-  hid_none room effort seat = record {
+  hid_none {room} {effort} {seat} = record {
     visits = seen_none (slots_of table) key (HidAt fits table key name) Goes effort seat;
     hidden = refl;
     slots = refl;
@@ -55,12 +55,12 @@ module _ {T A : Type 0} (fits : T → Key → List ℕ → Type 0) (table : Rule
     roomy = tt;
   }
 
-  module _ (i slot word n : ℕ) (room left : Bool) (caught : Option Stamp) (all here sum : Erased)
-      (e counted f : Effort)
-      (old now mid new : SeatOf T) (h : HasHid i room all e f old now)
-      (down : left ≡ true → room ≡ true)
-      (there : slot ≡ probe_slot (slots_of table) key i) (g : Effort)
-      (visited : VisitedSlots 1 f counted)
+module _ {T A : Type 0} {fits : T → Key → List ℕ → Type 0} {table : RuleTable T A} {key : Key}
+    {name : ℕ} where
+  module _ {i slot word n : ℕ} {room left : Bool} {caught : Option Stamp} {all here : Erased}
+      (sum : Erased) {e counted f g : Effort} {old now mid new : SeatOf T}
+      (h : HasHid fits table key name i room all e f old now) (down : left ≡ true → room ≡ true)
+      (there : slot ≡ probe_slot (slots_of table) key i) (visited : VisitedSlots 1 f counted)
       (does : PassesOrHides fits table key name room slot word caught here counted g now mid)
       (is_sum : (sum.hidden ≡ all.hidden + here.hidden) × (sum.slots ≡ all.slots + here.slots)
       × (sum.charge ≡ all.charge + here.charge))
@@ -89,20 +89,14 @@ module _ {T A : Type 0} (fits : T → Key → List ℕ → Type 0) (table : Rule
 
     hidden_more : sum.hidden
         ≡ total (λ (p : HideProbe). p.done.hidden) (h.visits.seen ++ probe ∷ [])
-    hidden_more =
-        total_more (λ (p : HideProbe). p.done.hidden) h.visits.seen probe all.hidden here.hidden
-        sum.hidden h.hidden refl is_sum.0
+    hidden_more = total_more (λ (p : HideProbe). p.done.hidden) h.visits.seen h.hidden refl is_sum.0
 
     slots_more : sum.slots ≡ total (λ (p : HideProbe). p.done.slots) (h.visits.seen ++ probe ∷ [])
-    slots_more =
-        total_more (λ (p : HideProbe). p.done.slots) h.visits.seen probe all.slots here.slots
-        sum.slots h.slots refl is_sum.1
+    slots_more = total_more (λ (p : HideProbe). p.done.slots) h.visits.seen h.slots refl is_sum.1
 
     charge_more : sum.charge
         ≡ total (λ (p : HideProbe). p.done.charge) (h.visits.seen ++ probe ∷ [])
-    charge_more =
-        total_more (λ (p : HideProbe). p.done.charge) h.visits.seen probe all.charge here.charge
-        sum.charge h.charge refl is_sum.2
+    charge_more = total_more (λ (p : HideProbe). p.done.charge) h.visits.seen h.charge refl is_sum.2
 
     grown : (o : Option Stamp) → IfSome o (λ stamp. is_in stamp (view now).work.dead ≡ true)
         → IfSome o (λ stamp. is_in stamp (view mid).work.dead ≡ true)
@@ -123,10 +117,9 @@ module _ {T A : Type 0} (fits : T → Key → List ℕ → Type 0) (table : Rule
         h.visits.seen h.roomy) (down, tt)
 
     -- It goes on,
-    pub hid_then : ¬ (n ≡ 0) → HasHid (i + 1) left sum e g old new
+    pub hid_then : ¬ (n ≡ 0) → HasHid fits table key name (i + 1) left sum e g old new
     hid_then some = record {
-      visits = seen_then (slots_of table) key (HidAt fits table key name) Goes i slot probe e f g
-          old now new h.visits there at some;
+      visits = seen_then h.visits there at some;
       hidden = hidden_more;
       slots = slots_more;
       charge = charge_more;
@@ -139,8 +132,7 @@ module _ {T A : Type 0} (fits : T → Key → List ℕ → Type 0) (table : Rule
     hides_here none = record {
       earlier = h.visits.seen;
       last = probe;
-      probes = more_seen (slots_of table) key (HidAt fits table key name) Goes i slot probe e f g
-          old now new h.visits there at;
+      probes = more_seen h.visits there at;
       goes_on = h.visits.goes_on;
       ends = inl none;
       hidden = hidden_more;
@@ -151,17 +143,17 @@ module _ {T A : Type 0} (fits : T → Key → List ℕ → Type 0) (table : Rule
     }
 
   -- It ends after all probes.
-  pub hides_every : (i : ℕ) (room : Bool) (all : Erased) (e f : Effort) (old now : SeatOf T)
-      → HasHid i room all e f old now → 0 < i → i ≡ slots_of table
+  pub hides_every : {i : ℕ} {room : Bool} {all : Erased} {e f : Effort} {old now : SeatOf T}
+      → HasHid fits table key name i room all e f old now → 0 < i → i ≡ slots_of table
       → HidesAll fits table key name room all e f old now
-  hides_every i room all e f old now h some whole = record {
+  hides_every {i} {room} {all} {e} {f} {old} {now} h some whole = record {
     earlier = split.0;
     last = split.1;
     probes =
         subst (λ (ps : List HideProbe).
         AtProbes (slots_of table) key (HidAt fits table key name) 0 ps e f old now) split.2
         h.visits.probes;
-    goes_on = each_front Goes split.0 (split.1 ∷ [])
+    goes_on = each_front (Goes fits table key name) split.0 (split.1 ∷ [])
         (subst (λ (ps : List HideProbe). HidingGoesOn ps) split.2 h.visits.goes_on);
     ends = inr (sym (sym h.visits.long ∙ ap length split.2 ∙ one_longer split.0 split.1) ∙ whole);
     hidden = h.hidden ∙ ap (total (λ (p : HideProbe). p.done.hidden)) split.2;

@@ -12,7 +12,7 @@ use Rattle.hcc_core.specs.declared.slot.Entry.{Entry}
 use Rattle.hcc_core.specs.declared.slot.Slot.{Slot}
 use Rattle.hcc_core.specs.declared.slot.Slot.TheVariants as slots
 use Rattle.hcc_core.specs.declared.slot.Stamp.{Stamp}
-use Rattle.hcc_core.specs.Runs.{FindsOne, after_all, held_at}
+use Rattle.hcc_core.specs.Runs.{FindsOne, held_at}
 use Rattle.hcc_core.specs.Sums.{total, when}
 use Rattle.hcc_core.specs.World.{State}
 use Rattle.hcc_rule.specs.declared.key.Key.{Key}
@@ -20,10 +20,9 @@ use Rattle.hcc_rule.specs.declared.table.RuleTable.{RuleTable}
 use Rattle.hcc_rule.specs.declared.view.Record.{Record}
 use Rattle.hcc_rule.specs.declared.view.View.{View}
 use Rattle.hcc_rule.specs.Addresses.{address_of_meta}
-use Rattle.hcc_rule.specs.Acts.{did, events_of, past, world_of}
+use Rattle.hcc_rule.specs.Acts.{events_of, past}
 use Rattle.hcc_rule.specs.Callers.{IsEvent, clients_of, plan_of, slots_of, world_at}
-use Rattle.hcc_rule.specs.Events.{count_done, give_done, hide_done, look_done}
-use Rattle.hcc_rule.specs.Opening.{begun_world}
+use Rattle.hcc_rule.specs.Events.{count_done, give_done, hide_done}
 use Rattle.hcc_rule.specs.Probes.{probe_slot}
 use Rattle.hcc_rule.specs.Records.{record_in}
 use Rattle.hcc_rule.specs.Seats.{SeatOf, Makes, view}
@@ -31,7 +30,6 @@ use Rattle.hcc_rule.specs.ToldReferences.{after_hide}
 use Rattle.hcc_rule.specs.Words.{key_of}
 use Rattle.hcc_rule.proofs.Basics.Lists.{within}
 use Rattle.hcc_rule.proofs.Probes.ProbeLaws.{probe_inside, probe_of_slot, some_slots}
-use Rattle.hcc_rule.proofs.Seats.Histories.{after_more}
 use Rattle.hcc_rule.proofs.Seats.Runs.{run_finds}
 use Rattle.hcc_table.specs.declared.efforts.Effort.{Effort}
 use Rattle.hcc_table.specs.declared.hiding.Erased.{Erased}
@@ -48,17 +46,17 @@ use Rattle.hcc_table.proofs.Probings.{one_longer}
 use Rattle.hcc_table.proofs.Seeking.{seeks_none, seeks_one, seeks_then}
 use Rattle.hcc_table.proofs.Setups.{slots_at}
 use Rattle.hcc_table.proofs.Shown.{count_tells, shown_counted}
-use Rattle.hcc_table.proofs.Unshown.{KeepsOwned, empty_tells, free_tells, hide_tells, owned_at, settling_keeps, unpasses_keep}
+use Rattle.hcc_table.proofs.Unshown.{KeepsOwned, empty_tells, free_tells, goes_keep, hide_tells, owned_at, settling_after, unpass_after}
 
 -- Keys.
 
-pub both_true : (a b : Bool) → (a && b) ≡ true → (a ≡ true) × (b ≡ true)
-both_true true b is = (refl, is)
-both_true false b is = cc
+pub both_true : (a : Bool) {b : Bool} → (a && b) ≡ true → (a ≡ true) × (b ≡ true)
+both_true true is = (refl, is)
+both_true false is = cc
 
 pub key_equal : (a b : Key) → is_key a b ≡ true → b ≡ a
 key_equal a b is =
-    let both = both_true (a.w0 == b.w0) (a.w1 == b.w1) is in
+    let both = both_true (a.w0 == b.w0) is in
     let first : a.w0 ≡ b.w0 = eqb-true a.w0 b.w0 both.0 in
     let second : a.w1 ≡ b.w1 = eqb-true a.w1 b.w1 both.1 in
     λ k. record { w0 = sym first k; w1 = sym second k }
@@ -102,12 +100,12 @@ module _ (key : Key) where
       omega arith
 
   -- one slot stopped to show the key
-  shown_less : (n slot c : ℕ) (w next : State) → slot < n
+  shown_less : (n : ℕ) {slot c : ℕ} (w next : State) → slot < n
       → counts_shown key (shown_at next slot) ≡ 0 → counts_shown key (shown_at w slot) ≡ c
       → ((s : ℕ) → s ≢ slot → shown_at next s ≡ shown_at w s)
       → shown_of n key next + c ≡ shown_of n key w
-  shown_less zero slot c w next low none had others = absurd (omega arith)
-  shown_less (suc n) slot c w next low none had others = elim (cases_eq n slot) [
+  shown_less zero w next low none had others = absurd (omega arith)
+  shown_less (suc n) {slot} {c} w next low none had others = elim (cases_eq n slot) [
     | inl here ↦
         let rest : shown_of n key next ≡ shown_of n key w =
         shown_same n w next (λ s less. others s (λ e. omega (arith, e, here, less))) in
@@ -117,8 +115,8 @@ module _ (key : Key) where
         subst (λ s. counts_shown key (shown_at w s) ≡ c) (sym here) had in
         omega arith
     | inr other ↦
-        let rest : shown_of n key next + c ≡ shown_of n key w =
-        shown_less n slot c w next (omega arith) none had others in
+        let rest : shown_of n key next + c ≡ shown_of n key w = shown_less n w next (omega arith)
+        none had others in
         let same : counts_shown key (shown_at next n) ≡ counts_shown key (shown_at w n) =
         ap (counts_shown key) (others n other) in
         omega arith
@@ -132,8 +130,8 @@ module _ (size : ℕ) (key : Key) where
     pub others : (s : ℕ) → ¬ ShowsKey w key s → shown_at next s ≡ shown_at w s
     pub less : (s : ℕ) → (shown_at next s ≡ shown_at w s) ⊎ (shown_at next s ≡ None)
 
-  loses_same : (w next : State) → ((s : ℕ) → shown_at next s ≡ shown_at w s) → Loses 0 w next
-  loses_same w next same = record {
+  loses_same : {w next : State} → ((s : ℕ) → shown_at next s ≡ shown_at w s) → Loses 0 w next
+  loses_same {w} {next} same = record {
     count =
         let all : shown_of size key next ≡ shown_of size key w =
         shown_same key size w next (λ s less. same s) in
@@ -142,15 +140,15 @@ module _ (size : ℕ) (key : Key) where
     less = λ s. inl (same s);
   }
 
-  still_lacks : (n : ℕ) (w next : State) → Loses n w next → (s : ℕ) → ¬ ShowsKey w key s
+  still_lacks : {n : ℕ} {w next : State} → Loses n w next → (s : ℕ) → ¬ ShowsKey w key s
       → ¬ ShowsKey next key s
-  still_lacks n w next h s lacks shows =
+  still_lacks h s lacks shows =
       lacks (subst (λ o. IsSomeAnd o (λ e. key_of e ≡ key)) (h.others s lacks) shows)
 
-  loses_then : (m n : ℕ) (u v w : State) → Loses m u v → Loses n v w → Loses (m + n) u w
-  loses_then m n u v w h g = record {
+  loses_then : {m n : ℕ} {u v w : State} → Loses m u v → Loses n v w → Loses (m + n) u w
+  loses_then {m} {n} {u} {v} h g = record {
     count = let first = h.count in let second = g.count in omega arith;
-    others = λ s lacks. g.others s (still_lacks m u v h s lacks) ∙ h.others s lacks;
+    others = λ s lacks. g.others s (still_lacks h s lacks) ∙ h.others s lacks;
     less = λ s. elim (g.less s) [
       | inl same ↦ elim (h.less s) [
         | inl was ↦ inl (same ∙ was)
@@ -165,9 +163,9 @@ module _ {T A : Type 0} (table : RuleTable T A) (one : clients_of table ≡ 1) w
   finds_at a = run_finds (plan_of table) (events_of (past a))
 
   -- A slot that shows a key is one of the table.
-  shows_inside : (a : SeatOf T) (key : Key) (slot : ℕ) → ShowsKey (world_at table a) key slot
+  shows_inside : (a : SeatOf T) (key : Key) {slot : ℕ} → ShowsKey (world_at table a) key slot
       → slot < slots_of table
-  shows_inside a key slot shows = by (slice_get (world_at table a).slots slot) refl shows
+  shows_inside a key {slot} shows = by (slice_get (world_at table a).slots slot) refl shows
     where
       by : (o : Option Slot) → slice_get (world_at table a).slots slot ≡ o
           → IsSomeAnd (option_and_then entry_shown o) (λ e. key_of e ≡ key)
@@ -179,14 +177,14 @@ module _ {T A : Type 0} (table : RuleTable T A) (one : clients_of table ≡ 1) w
           omega arith
 
   -- An entry that isn't shown was taken, and its slot freed: what is shown stays.
-  freed_keeps : (slot charge : ℕ) (name : Option ℕ) (a took b : SeatOf T)
+  freed_keeps : {slot charge : ℕ} {name : Option ℕ} (a : SeatOf T) {took : SeatOf T} (b : SeatOf T)
       → IsEvent table (free_event slot name charge (view a)) a took
       → Empties table (view a).client took b → shown_at (world_at table a) slot ≡ None
       → (s : ℕ) → shown_at (world_at table b) s ≡ shown_at (world_at table a) s
-  freed_keeps slot charge name a took b event empties none s =
+  freed_keeps {slot} {charge} {name} a {took} b event empties none s =
       empty_tells (world_at table mid) (world_at table b) (view a).client slot (view a).client 0
-      (event_alone table one (did (events.Empty (view a).client) replies.Ok) mid b empties.2)
-      (ap (λ xs. slice_get xs slot) kept.0 ∙ told.1) (kept.1 (view a).client ∙ told.2) s
+      (event_alone table one _ mid b empties.2) (ap (λ xs. slice_get xs slot) kept.0 ∙ told.1)
+      (kept.1 (view a).client ∙ told.2) s
       ∙ ap (λ xs. option_and_then entry_shown (slice_get xs s)) kept.0
       ∙ told.0 s
     where
@@ -199,55 +197,43 @@ module _ {T A : Type 0} (table : RuleTable T A) (one : clients_of table ≡ 1) w
           × (owned_at (world_at table took) (view a).client ≡ Some (owned.ForFreeing slot))
       told =
           free_tells (world_at table a) (world_at table took) (view a).client slot charge name
-          (event_alone table one (free_event slot name charge (view a)) a took event) none
-
-      led : world_at table mid
-          ≡ after_all (world_at table took) (events_of empties.1.more)
-      led =
-          ap (world_of (plan_of table)) empties.1.goes_on
-          ∙ after_more (past took) empties.1.more (begun_world (plan_of table))
+          (event_alone table one _ a took event) none
 
       kept : KeepsOwned (world_at table took) (world_at table mid)
-      kept =
-          subst (KeepsOwned (world_at table took)) (sym led)
-          (unpasses_keep empties.1.more (empties.1.alone one) (world_at table took))
+      kept = goes_keep unpass_after one empties.1
 
   -- What settles changes nothing of what is shown.
   pub settled_keeps : (a b : SeatOf T) → GoesOnBy table is_settling a b → (s : ℕ)
       → shown_at (world_at table b) s ≡ shown_at (world_at table a) s
   settled_keeps a b h s =
-      ap (λ ds. shown_at (world_of (plan_of table) ds) s) h.goes_on
-      ∙ ap (λ w. shown_at w s) (after_more (past a) h.more (begun_world (plan_of table)))
-      ∙ ap (λ xs. option_and_then entry_shown (slice_get xs s))
-      (settling_keeps h.more (h.alone one) (world_at table a)).0
+      ap (λ xs. option_and_then entry_shown (slice_get xs s)) (goes_keep settling_after one h).0
 
   -- To try to take an entry that isn't shown changes nothing of what is.
-  takes_keep : (slot word : ℕ) (name : Option ℕ) (due : Bool) (freed : Option ℕ) (a b : SeatOf T)
+  takes_keep : {slot word : ℕ} {name : Option ℕ} (due : Bool) (freed : Option ℕ) {a b : SeatOf T}
       → TakesByWhereDue table slot word name due freed a b
       → shown_at (world_at table a) slot ≡ None
       → (s : ℕ) → shown_at (world_at table b) s ≡ shown_at (world_at table a) s
-  takes_keep slot word name false freed a b h none s =
-      ap (λ z. shown_at (world_at table z) s) (h.1 refl)
-  takes_keep slot word name true None a b h none s =
+  takes_keep false freed h none s = ap (λ z. shown_at (world_at table z) s) (h.1 refl)
+  takes_keep {slot} true None {a} {b} h none s =
       let lost = (h.0 refl).lost in
-      alone_shows table one a b (seeks_one table (look_done slot lost.0 (view a)) a b lost.2 refl) s
-  takes_keep slot word name true (Some charge) a b h none s =
+      alone_shows table one (seeks_one table _ a b lost.2 refl) s
+  takes_keep {slot} {word} {name} true (Some charge) {a} {b} h none s =
       let won = (h.0 refl).won in
-      freed_keeps slot charge name a won.0 b won.1 won.2 none s
+      freed_keeps a b won.1 won.2 none s
 
   -- The entry of a record was hidden by one step.
-  hid_tells : (slot name found : ℕ) (a hid : SeatOf T)
+  hid_tells : {slot name : ℕ} (found : ℕ) (a hid : SeatOf T)
       → IsEvent table (hide_done name found (view a)) a hid
-      → view hid ≡ after_hide name found (view a) → (r : Record)
+      → view hid ≡ after_hide name found (view a) → {r : Record}
       → record_in name (view a).records ≡ Some r → r.slot ≡ slot
       → (shown_at (world_at table hid) slot ≡ None)
       × (shown_at (world_at table a) slot ≡ (if is_visible found then Some r.entry else None))
       × ((s : ℕ) → s ≢ slot
       → shown_at (world_at table hid) s ≡ shown_at (world_at table a) s)
-  hid_tells slot name found a hid event told r there on =
+  hid_tells {slot} {name} found a hid event told {r} there on =
       hide_tells (world_at table a) (world_at table hid) (view a).client name slot
-      (is_visible found) r.entry (finds_at a) (finds_at hid)
-      (event_alone table one (hide_done name found (view a)) a hid event) held
+      (is_visible found) r.entry (finds_at a) (finds_at hid) (event_alone table one _ a hid event)
+      held
     where
       held : held_at (world_at table hid) (view a).client name slot ≡ Some r.entry
       held =
@@ -258,19 +244,18 @@ module _ {T A : Type 0} (table : RuleTable T A) (one : clients_of table ≡ 1) w
           (ap (λ (z : View T). record_in name z.records) told ∙ there)))
 
   module _ (key : Key) where
-    hid_loses : (slot name found : ℕ) (a hid : SeatOf T) → slot < slots_of table
+    hid_loses : {slot name : ℕ} (found : ℕ) (a hid : SeatOf T) → slot < slots_of table
         → IsEvent table (hide_done name found (view a)) a hid
-        → view hid ≡ after_hide name found (view a) → (r : Record)
+        → view hid ≡ after_hide name found (view a) → {r : Record}
         → record_in name (view a).records ≡ Some r → r.slot ≡ slot → key_of r.entry ≡ key
         → Loses (slots_of table) key (from_bool (is_visible found)) (world_at table a)
         (world_at table hid)
         × (shown_at (world_at table hid) slot ≡ None)
-    hid_loses slot name found a hid low event told r there on asked = (
+    hid_loses {slot} {name} found a hid low event told {r} there on asked = (
       record {
         count =
-            shown_less key (slots_of table) slot (from_bool (is_visible found)) (world_at table a)
-            (world_at table hid) low (ap (counts_shown key) is.0)
-            (ap (counts_shown key) is.1 ∙ had (is_visible found)) is.2;
+            shown_less key (slots_of table) (world_at table a) (world_at table hid) low
+            (ap (counts_shown key) is.0) (ap (counts_shown key) is.1 ∙ had (is_visible found)) is.2;
         others = λ s lacks. elim (cases_eq s slot) [
           | inl here ↦
               subst (λ n. shown_at (world_at table hid) n ≡ shown_at (world_at table a) n)
@@ -292,7 +277,7 @@ module _ {T A : Type 0} (table : RuleTable T A) (one : clients_of table ≡ 1) w
             × (shown_at (world_at table a) slot ≡ (if is_visible found then Some r.entry else None))
             × ((s : ℕ) → s ≢ slot
             → shown_at (world_at table hid) s ≡ shown_at (world_at table a) s)
-        is = hid_tells slot name found a hid event told r there on
+        is = hid_tells found a hid event told there on
 
         had : (b : Bool) → counts_shown key (if b then Some r.entry else None) ≡ from_bool b
         had true = counts_one key r.entry asked
@@ -304,20 +289,18 @@ module _ {T A : Type 0} (table : RuleTable T A) (one : clients_of table ≡ 1) w
         was false lacks = refl
 
     -- What was hidden, and tried to take then.
-    held_loses : (slot name : ℕ) (room : Bool) (done : Erased) (e f : Effort) (a b : SeatOf T)
+    held_loses : {slot name : ℕ} {room : Bool} {done : Erased} {e f : Effort} {a b : SeatOf T}
         → slot < slots_of table → HidesHeld table slot name room done e f a b
         → IsSomeAnd (record_in name (view a).records)
         (λ r. (r.slot ≡ slot) × (key_of r.entry ≡ key))
         → Loses (slots_of table) key done.hidden (world_at table a) (world_at table b)
         × (shown_at (world_at table b) slot ≡ None)
-    held_loses slot name room done e f a b low h holds =
+    held_loses {slot} {name} {room} {done} {e} {f} {a} {b} low h holds =
         let r = some_and (record_in name (view a).records) _ holds in
-        let hid = hid_loses slot name h.found a h.hid low h.event h.told r.0 r.1 r.2.0 r.2.1 in (
+        let hid = hid_loses h.found a h.hid low h.event h.told r.1 r.2.0 r.2.1 in (
           subst (λ n. Loses (slots_of table) key n (world_at table a) (world_at table b)) count
-              (loses_then (slots_of table) key (from_bool (is_visible h.found)) 0
-              (world_at table a) (world_at table h.hid) (world_at table b) hid.0
-              (loses_same (slots_of table) key (world_at table h.hid) (world_at table b)
-              (rest hid.1))),
+              (loses_then (slots_of table) key hid.0
+              (loses_same (slots_of table) key (rest hid.1))),
           rest hid.1 slot ∙ hid.1,
         )
       where
@@ -331,8 +314,7 @@ module _ {T A : Type 0} (table : RuleTable T A) (one : clients_of table ≡ 1) w
             × Makes (address_of_meta table slot) 1 0 left h.tried b
             × (done.slots ≡ 0) × (done.charge ≡ 0)
             × IsEvent table (give_done 1 name left (view h.tried)) h.tried b)) is h.given in
-            alone_shows table one h.tried b
-            (seeks_one table (give_done 1 name given.0 (view h.tried)) h.tried b given.4 refl) s
+            alone_shows table one (seeks_one table _ h.tried b given.4 refl) s
         last (Some charge) is s =
             let won = subst (λ o. IfSome o (λ charge.
             (b ≡ h.tried) × (done.slots ≡ 1) × (done.charge ≡ charge))) is h.won in
@@ -342,64 +324,52 @@ module _ {T A : Type 0} (table : RuleTable T A) (one : clients_of table ≡ 1) w
             → shown_at (world_at table b) s ≡ shown_at (world_at table h.hid) s
         rest none s =
             last h.freed refl s
-            ∙ takes_keep slot (bit_and h.found HIDING_MASK) (Some name)
-            (room && is_alone (bit_and h.found HIDING_MASK)) h.freed h.hid h.tried h.takes none s
+            ∙ takes_keep (room && is_alone (bit_and h.found HIDING_MASK)) h.freed h.takes none s
 
     module _ (fits : T → Key → List ℕ → Type 0) (name : ℕ) where
-      catches_seek : (slot word : ℕ) (e f : Effort) (a b : SeatOf T)
+      catches_seek : {slot word : ℕ} {e f : Effort} {a b : SeatOf T}
           → Catches fits table key name (Looks table slot) slot 1 word e f a b → Seeks table a b
-      catches_seek slot word e f a b h =
-          seeks_then table a h.looked b (looks_seek table slot h.seen a h.looked h.first)
-          (seeks_then table h.looked h.mid b
-          (seeks_then table h.looked h.reaches.by.mid h.mid
+      catches_seek {slot} {word} {e} {f} {a} {b} h =
+          seeks_then table a _ b (looks_seek table slot h.seen a h.looked h.first) (seeks_then table
+          _ h.mid b (seeks_then table _ _ h.mid
           (reach_seeks table slot 1 name word h.looked h.mid h.reaches.by)
           (reached_seeks table slot 1 name word h.looked h.mid h.reaches.by)) h.seeks)
 
       -- What was done at one slot: there nothing shows the key any more.
-      passed_loses : (room : Bool) (slot word : ℕ) (caught : Option Stamp) (done : Erased)
-          (e f : Effort) (a b : SeatOf T) → slot < slots_of table
+      passed_loses : {room : Bool} {slot word : ℕ} {caught : Option Stamp} {done : Erased}
+          {e f : Effort} {a b : SeatOf T} → slot < slots_of table
           → PassesOrHides fits table key name room slot word caught done e f a b
           → Loses (slots_of table) key done.hidden (world_at table a) (world_at table b)
           × ¬ ShowsKey (world_at table b) key slot
-      passed_loses room slot word caught done e f a b low (inl passes) =
+      passed_loses {room} {slot} {word} {caught} {done} {e} {f} {a} {b} low (inl passes) =
           let seeks = passes_seek fits table key name slot word e f a b passes.0 in
-          let stays = loses_same (slots_of table) key (world_at table a) (world_at table b)
-          (alone_shows table one a b seeks) in (
+          let stays = loses_same (slots_of table) key (alone_shows table one seeks) in (
             subst (λ (d : Erased). Loses (slots_of table) key d.hidden (world_at table a)
                 (world_at table b)) (sym passes.1) stays,
-            still_lacks (slots_of table) key 0 (world_at table a) (world_at table b) stays slot
-                (lacks_alone table key slot a b one
+            still_lacks (slots_of table) key stays slot (lacks_alone table key slot a b one
                 (passes_lack fits table key name a b slot word e f a b (led_none table a)
                 (seeks_none table b) passes.0)),
           )
-      passed_loses room slot word caught done e f a b low (inr h) =
-          let seeks = catches_seek slot word e h.between a h.held h.catches in
-          let hid = held_loses slot name room done h.between f h.held b low h.hides h.holds in (
+      passed_loses {room} {slot} {word} {caught} {done} {e} {f} {a} {b} low (inr h) =
+          let seeks = catches_seek h.catches in
+          let hid = held_loses low h.hides h.holds in (
             subst (λ n. Loses (slots_of table) key n (world_at table a) (world_at table b))
-                (zero-add done.hidden)
-                (loses_then (slots_of table) key 0 done.hidden (world_at table a)
-                (world_at table h.held) (world_at table b)
-                (loses_same (slots_of table) key (world_at table a) (world_at table h.held)
-                (alone_shows table one a h.held seeks)) hid.0),
+                (zero-add done.hidden) (loses_then (slots_of table) key
+                (loses_same (slots_of table) key (alone_shows table one seeks)) hid.0),
             none_shown (world_at table b) key slot hid.1,
           )
 
-      hid_at_loses : (slot : ℕ) (p : HideProbe) (e f : Effort) (a b : SeatOf T)
+      hid_at_loses : {slot : ℕ} {p : HideProbe} {e f : Effort} {a b : SeatOf T}
           → slot < slots_of table → HidAt fits table key name slot p e f a b
           → Loses (slots_of table) key p.done.hidden (world_at table a) (world_at table b)
           × ¬ ShowsKey (world_at table b) key slot
-      hid_at_loses slot p e f a b low h =
-          let done = passed_loses p.room slot p.found.word p.caught p.done h.between f a h.mid low
-          h.does in
-          let stays = loses_same (slots_of table) key (world_at table h.mid) (world_at table b)
-          (alone_shows table one h.mid b
-          (seeks_one table (count_done slot p.found.displacement (view h.mid)) h.mid b h.event
-          refl)) in (
+      hid_at_loses {slot} {p} {e} {f} {a} {b} low h =
+          let done = passed_loses low h.does in
+          let stays = loses_same (slots_of table) key
+          (alone_shows table one (seeks_one table _ h.mid b h.event refl)) in (
             subst (λ n. Loses (slots_of table) key n (world_at table a) (world_at table b)) nothing
-                (loses_then (slots_of table) key p.done.hidden 0 (world_at table a)
-                (world_at table h.mid) (world_at table b) done.0 stays),
-            still_lacks (slots_of table) key 0 (world_at table h.mid) (world_at table b) stays slot
-                done.1,
+                (loses_then (slots_of table) key done.0 stays),
+            still_lacks (slots_of table) key stays slot done.1,
           )
         where
           nothing : p.done.hidden + 0 ≡ p.done.hidden
@@ -417,26 +387,20 @@ module _ {T A : Type 0} (table : RuleTable T A) (one : clients_of table ≡ 1) w
           × ((k : ℕ) → i ≤ k → k < i + length ps
           → ¬ ShowsKey (world_at table b) key (probe_slot (slots_of table) key k))
       probes_lose i [] e f a b h = (
-        loses_same (slots_of table) key (world_at table a) (world_at table b)
-            (λ s. ap (λ z. shown_at (world_at table z) s) h.1),
+        loses_same (slots_of table) key (λ s. ap (λ z. shown_at (world_at table z) s) h.1),
         λ k low high. absurd (omega arith),
       )
       probes_lose i (p ∷ ps) e f a b h =
-          let first = hid_at_loses (probe_slot (slots_of table) key i) p e h.0 a h.1 (probe_low i)
-          h.2 in
+          let first = hid_at_loses (probe_low i) h.2 in
           let rest = probes_lose (i + 1) ps h.0 f h.1 b h.3 in (
-            loses_then (slots_of table) key p.done.hidden
-                (total (λ (p : HideProbe). p.done.hidden) ps) (world_at table a)
-                (world_at table h.1) (world_at table b) first.0 rest.0,
+            loses_then (slots_of table) key first.0 rest.0,
             λ k low high. elim (cases_lt i k) [
               | inl later ↦ rest.1 k (omega arith) (omega arith)
               | inr here ↦
                   let same : i ≡ k = omega arith in
-                  subst (λ n. ¬ ShowsKey (world_at table b) key
-                  (probe_slot (slots_of table) key n)) same
-                  (still_lacks (slots_of table) key
-                  (total (λ (p : HideProbe). p.done.hidden) ps) (world_at table h.1)
-                  (world_at table b) rest.0 (probe_slot (slots_of table) key i) first.1)
+                  subst (λ n. ¬ ShowsKey (world_at table b) key (probe_slot (slots_of table) key n))
+                  same (still_lacks (slots_of table) key rest.0 (probe_slot (slots_of table) key i)
+                  first.1)
             ],
           )
 
@@ -468,10 +432,10 @@ module _ {T A : Type 0} (table : RuleTable T A) (one : clients_of table ≡ 1) w
       module _ (room : Bool) (all : Erased) (before after : Effort) (old new : SeatOf T)
           (m : HidesAll fits table key name room all before after old new) where
         -- where no trail went on, no later probe shows the key
-        beyond_none : (i : ℕ) → length m.earlier < i → i < slots_of table
+        beyond_none : {i : ℕ} → length m.earlier < i → i < slots_of table
             → m.last.found.displacement ≡ 0
             → ¬ ShowsKey (world_at table new) key (probe_slot (slots_of table) key i)
-        beyond_none i beyond inside none shows =
+        beyond_none {i} beyond inside none shows =
             let count = last_counted 0 m.earlier m.last before after old new m.probes in
             let done = count_done (probe_slot (slots_of table) key (0 + length m.earlier))
             m.last.found.displacement (view count.0) in
@@ -498,7 +462,7 @@ module _ {T A : Type 0} (table : RuleTable T A) (one : clients_of table ≡ 1) w
                 → ¬ ShowsKey (world_at table new) key (probe_slot (slots_of table) key i)
             by i inside = elim (cases_lt (length m.earlier) i) [
               | inl beyond ↦ elim m.ends [
-                | inl none ↦ beyond_none i beyond inside none
+                | inl none ↦ beyond_none beyond inside none
                 | inr whole ↦ absurd (omega arith)
               ]
               | inr visited ↦
@@ -520,7 +484,7 @@ module _ {T A : Type 0} (table : RuleTable T A) (one : clients_of table ≡ 1) w
               none = none_left;
               gone = λ slot shows. elim (h.0.less slot) [
                 | inl same ↦
-                    absurd (none_left slot (shows_inside old key slot shows)
+                    absurd (none_left slot (shows_inside old key shows)
                     (subst (λ o. IsSomeAnd o (λ e. key_of e ≡ key)) (sym same) shows))
                 | inr none ↦ none
               ];

@@ -6,19 +6,16 @@ use Rattle.hcc_word.specs.Word.{is_counting, is_visible}
 use Rattle.hcc_core.specs.declared.client.Owned.TheVariants as owned
 use Rattle.hcc_core.specs.declared.slot.Entry.{Entry}
 use Rattle.hcc_core.specs.declared.slot.Slot.{Slot}
-use Rattle.hcc_core.specs.Runs.{after_all}
 use Rattle.hcc_core.specs.World.{State}
 use Rattle.hcc_rule.specs.declared.key.Key.{Key}
 use Rattle.hcc_rule.specs.declared.table.RuleTable.{RuleTable}
-use Rattle.hcc_rule.specs.Acts.{Leads, events_of, past, world_of}
-use Rattle.hcc_rule.specs.Callers.{IsEvent, clients_of, plan_of, slots_of, world_at}
-use Rattle.hcc_rule.specs.Events.{acquire_done, give_done, occupy_done, pass_done, show_done, spend_done}
-use Rattle.hcc_rule.specs.Opening.{begun_world}
+use Rattle.hcc_rule.specs.Acts.{Leads}
+use Rattle.hcc_rule.specs.Callers.{IsEvent, clients_of, slots_of, world_at}
+use Rattle.hcc_rule.specs.Events.{acquire_done}
 use Rattle.hcc_rule.specs.Probes.{probe_slot}
 use Rattle.hcc_rule.specs.Seats.{SeatOf, view}
 use Rattle.hcc_rule.specs.Words.{key_of}
 use Rattle.hcc_rule.proofs.Probes.ProbeLaws.{probe_inside, probe_of_slot, some_slots}
-use Rattle.hcc_rule.proofs.Seats.Histories.{after_more}
 use Rattle.hcc_table.specs.declared.efforts.Effort.{Effort}
 use Rattle.hcc_table.specs.declared.inserting.Insertion.{Insertion}
 use Rattle.hcc_table.specs.declared.inserting.Insertion.TheVariants.{Placed, Matched, NoSlot}
@@ -30,10 +27,10 @@ use Rattle.hcc_table.specs.Tries.{Inserts, MatchesAt, PassesTaken, ShowsBy, Uses
 use Rattle.hcc_table.proofs.Alone.{event_alone}
 use Rattle.hcc_table.proofs.Lasting.{alone_shows, entry_seeks, met_there, reach_seeks, reached_seeks}
 use Rattle.hcc_table.proofs.Moments.{none_shown, some_and}
-use Rattle.hcc_table.proofs.Occupied.{occupy_tells, passed_keeps, show_tells, taken_tells, use_tells, writes_keep}
+use Rattle.hcc_table.proofs.Occupied.{occupy_tells, passed_keeps, show_tells, taken_tells, use_tells, write_after}
 use Rattle.hcc_table.proofs.Seeking.{seeks_one, seeks_then}
 use Rattle.hcc_table.proofs.Shown.{acquire_hides, acquire_shows}
-use Rattle.hcc_table.proofs.Unshown.{KeepsOwned, owned_at, unpasses_keep}
+use Rattle.hcc_table.proofs.Unshown.{KeepsOwned, goes_keep, owned_at, unpass_after}
 
 module _ {T A : Type 0} (table : RuleTable T A) (one : clients_of table ≡ 1) (key : Key) where
   -- What is shown in one world is shown where the same is.
@@ -42,29 +39,26 @@ module _ {T A : Type 0} (table : RuleTable T A) (one : clients_of table ≡ 1) (
   shows_still w next slot same = subst (λ o. IsSomeAnd o (λ e. key_of e ≡ key)) same
 
   -- The trail was taken back.
-  unpassed : (a b : SeatOf T) → GoesOnBy table is_unpass a b
+  unpassed : {a b : SeatOf T} → GoesOnBy table is_unpass a b
       → ShowsSame (world_at table a) (world_at table b)
-  unpassed a b h s =
-      ap (λ ds. shown_at (world_of (plan_of table) ds) s) h.goes_on
-      ∙ ap (λ w. shown_at w s) (after_more (past a) h.more (begun_world (plan_of table)))
-      ∙ ap (λ xs. option_and_then entry_shown (slice_get xs s))
-      (unpasses_keep h.more (h.alone one) (world_at table a)).0
+  unpassed h s =
+      ap (λ xs. option_and_then entry_shown (slice_get xs s)) (goes_keep unpass_after one h).0
 
   -- A slot that isn't empty was looked at.
-  looked_at : (slot seen : ℕ) (a b : SeatOf T) → FindsTaken table slot seen a b
+  looked_at : {slot seen : ℕ} {a b : SeatOf T} → FindsTaken table slot seen a b
       → ShowsSame (world_at table a) (world_at table b)
       × (is_visible seen ≡ false → shown_at (world_at table b) slot ≡ None)
-  looked_at slot seen a b h =
+  looked_at {slot} {seen} {a} {b} h =
       occupy_tells (world_at table a) (world_at table b) (view a).client slot seen
-      (event_alone table one (occupy_done slot seen (view a)) a b h.3) h.2
+      (event_alone table one _ a b h.3) h.2
 
   module _ (fits : T → Key → List ℕ → Type 0) (name weight : ℕ) where
     -- An entry was passed: the slot doesn't show the key.
-    entry_lacks : (slot word : ℕ) (e f : Effort) (a b : SeatOf T)
+    entry_lacks : {slot word : ℕ} {e f : Effort} {a b : SeatOf T}
         → PassesEntry fits table key name slot weight word e f a b
         → ShowsSame (world_at table a) (world_at table b) × ¬ ShowsKey (world_at table a) key slot
-    entry_lacks slot word e f a b h = (
-      alone_shows table one a b (entry_seeks fits table key name slot weight word e f a b h),
+    entry_lacks {slot} {word} {e} {f} {a} {b} h = (
+      alone_shows table one (entry_seeks fits table key name slot weight word e f a b h),
       λ shows. here (is_visible word) refl
           (shows_still (world_at table got) (world_at table a) slot (sym (same slot)) shows),
     )
@@ -74,12 +68,10 @@ module _ {T A : Type 0} (table : RuleTable T A) (one : clients_of table ≡ 1) (
 
         led : Leads (world_at table a) (acquire_done slot weight name word (view a))
             (world_at table got)
-        led = event_alone table one (acquire_done slot weight name word (view a)) a got
-            h.reaches.by.adds
+        led = event_alone table one _ a got h.reaches.by.adds
 
         same : ShowsSame (world_at table a) (world_at table got)
-        same = alone_shows table one a got
-            (reach_seeks table slot weight name word a h.mid h.reaches.by)
+        same = alone_shows table one (reach_seeks table slot weight name word a h.mid h.reaches.by)
 
         here : (shown : Bool) → is_visible word ≡ shown → ¬ ShowsKey (world_at table got) key slot
         here false off shows =
@@ -92,14 +84,14 @@ module _ {T A : Type 0} (table : RuleTable T A) (one : clients_of table ≡ 1) (
             (λ e. ¬ (key_of e ≡ key)) (h.other visible) found.0 found.1 found.2
 
     -- So is a slot that was passed,
-    passed_lacks : (slot word : ℕ) (e f : Effort) (a b : SeatOf T)
+    passed_lacks : {slot word : ℕ} {e f : Effort} {a b : SeatOf T}
         → Passes fits table key name (FindsTaken table slot) slot weight word e f a b
         → ShowsSame (world_at table a) (world_at table b) × ¬ ShowsKey (world_at table a) key slot
-    passed_lacks slot word e f a b h = by (is_visible h.seen) refl
+    passed_lacks {slot} {word} {e} {f} {a} {b} h = by (is_visible h.seen) refl
       where
         looked : ShowsSame (world_at table a) (world_at table h.mid)
             × (is_visible h.seen ≡ false → shown_at (world_at table h.mid) slot ≡ None)
-        looked = looked_at slot h.seen a h.mid h.first
+        looked = looked_at h.first
 
         by : (shown : Bool) → is_visible h.seen ≡ shown
             → ShowsSame (world_at table a) (world_at table b)
@@ -109,7 +101,7 @@ module _ {T A : Type 0} (table : RuleTable T A) (one : clients_of table ≡ 1) (
           none_shown (world_at table a) key slot (sym (looked.0 slot) ∙ looked.1 off),
         )
         by true on =
-            let entry = entry_lacks slot word e f h.mid b (h.shown on) in (
+            let entry = entry_lacks (h.shown on) in (
               λ s. entry.0 s ∙ looked.0 s,
               λ shows. entry.1
                   (shows_still (world_at table h.mid) (world_at table a) slot
@@ -129,11 +121,11 @@ module _ {T A : Type 0} (table : RuleTable T A) (one : clients_of table ≡ 1) (
     probes_lack i (p ∷ ps) e f a b h =
         let at = h.2 in
         let slot = probe_slot (slots_of table) key i in
-        let first = passed_lacks slot p at.between h.0 a at.mid at.passes in
+        let first = passed_lacks at.passes in
         let rest = probes_lack (i + 1) ps h.0 f h.1 b h.3 in
         let same : ShowsSame (world_at table a) (world_at table h.1) =
-        λ s. passed_keeps (world_at table at.mid) (world_at table h.1) (view at.mid).client slot _
-        (event_alone table one (pass_done slot (view at.mid)) at.mid h.1 at.event) s
+        λ s. passed_keeps (world_at table at.mid) (view at.mid).client slot
+        (event_alone table one _ at.mid h.1 at.event) s
         ∙ first.0 s in (
           λ s. rest.0 s ∙ same s,
           λ k low high. elim (cases_lt i k) [
@@ -155,20 +147,17 @@ module _ {T A : Type 0} (table : RuleTable T A) (one : clients_of table ≡ 1) (
         → ShowsSame (world_at table a) (world_at table b)
     released true other a b event =
         use_tells (world_at table a) (world_at table b) (view a).client name _
-        (event_alone table one (spend_done weight name other (view a)) a b event)
-    released false other a b event =
-        alone_shows table one a b
-        (seeks_one table (give_done weight name other (view a)) a b event refl)
+        (event_alone table one _ a b event)
+    released false other a b event = alone_shows table one (seeks_one table _ a b event refl)
 
     -- An entry of the key was met.
-    matches_show : (slot : ℕ) (e f : Effort) (a b : SeatOf T)
+    matches_show : {slot : ℕ} {e f : Effort} {a b : SeatOf T}
         → MatchesAt fits table key name weight slot e f a b
         → ShowsSame (world_at table a) (world_at table b) × ShowsKey (world_at table a) key slot
-    matches_show slot e f a b h = (
+    matches_show {slot} {e} {f} {a} {b} h = (
       λ s. released (is_counting h.word) uses.by.0 uses.held b uses.by.1 s
-          ∙ alone_shows table one h.mid uses.held seeks s ∙ looked.0 s,
-      shows_still (world_at table a) (world_at table got) slot
-          (alone_shows table one h.mid got
+          ∙ alone_shows table one seeks s ∙ looked.0 s,
+      shows_still (world_at table a) (world_at table got) slot (alone_shows table one
           (reach_seeks table slot weight name h.word h.mid uses.mid uses.reaches.by) slot
           ∙ looked.0 slot)
           (subst (λ o. IsSomeAnd o (λ e. key_of e ≡ key)) (sym shown.1)
@@ -184,27 +173,23 @@ module _ {T A : Type 0} (table : RuleTable T A) (one : clients_of table ≡ 1) (
 
         looked : ShowsSame (world_at table a) (world_at table h.mid)
             × (is_visible h.seen ≡ false → shown_at (world_at table h.mid) slot ≡ None)
-        looked = looked_at slot h.seen a h.mid h.first
+        looked = looked_at h.first
 
         shown : (entry : Entry) × (shown_at (world_at table got) slot ≡ Some entry)
         shown = acquire_shows (world_at table h.mid) (world_at table got) (view h.mid).client slot
-            weight name h.word
-            (event_alone table one (acquire_done slot weight name h.word (view h.mid)) h.mid got
-            uses.reaches.by.adds) uses.visible
+            weight name h.word (event_alone table one _ h.mid got uses.reaches.by.adds) uses.visible
 
         seeks : Seeks table h.mid uses.held
         seeks =
-            seeks_then table h.mid uses.mid uses.held
-            (seeks_then table h.mid got uses.mid
+            seeks_then table h.mid _ _ (seeks_then table h.mid got _
             (reach_seeks table slot weight name h.word h.mid uses.mid uses.reaches.by)
-            (reached_seeks table slot weight name h.word h.mid uses.mid uses.reaches.by))
-            uses.seeks
+            (reached_seeks table slot weight name h.word h.mid uses.mid uses.reaches.by)) uses.seeks
 
     -- An entry of the key was shown in an empty slot.
-    placed_shows : (slot : ℕ) (a b : SeatOf T) → ShowsBy fits table key name weight slot a b
+    placed_shows : {slot : ℕ} {a b : SeatOf T} → ShowsBy fits table key name weight slot a b
         → (shown_at (world_at table a) slot ≡ None) × ShowsKey (world_at table b) key slot
         × ((s : ℕ) → s ≢ slot → shown_at (world_at table b) s ≡ shown_at (world_at table a) s)
-    placed_shows slot a b h = (
+    placed_shows {slot} {a} {b} h = (
       took.0,
       subst (λ o. IsSomeAnd o (λ e. key_of e ≡ key)) (sym told.0.1) asked,
       λ s other. told.1 s other ∙ ap (λ xs. option_and_then entry_shown (slice_get xs s)) kept.0
@@ -220,18 +205,10 @@ module _ {T A : Type 0} (table : RuleTable T A) (one : clients_of table ≡ 1) (
             × (owned_at (world_at table h.took) (view a).client ≡ Some (owned.ForBuilding slot))
         took =
             taken_tells (world_at table a) (world_at table h.took) (view a).client slot h.word
-            (event_alone table one (occupy_done slot h.word (view a)) a h.took h.takes) h.empty
-
-        led : world_at table wrote
-            ≡ after_all (world_at table h.took) (events_of h.builds.1.more)
-        led =
-            ap (world_of (plan_of table)) h.builds.1.goes_on
-            ∙ after_more (past h.took) h.builds.1.more (begun_world (plan_of table))
+            (event_alone table one _ a h.took h.takes) h.empty
 
         kept : KeepsOwned (world_at table h.took) (world_at table wrote)
-        kept =
-            subst (KeepsOwned (world_at table h.took)) (sym led)
-            (writes_keep h.builds.1.more (h.builds.1.alone one) (world_at table h.took))
+        kept = goes_keep write_after one h.builds.1
 
         mine : owned_at (world_at table wrote) (view wrote).client
             ≡ Some (owned.ForBuilding slot)
@@ -244,10 +221,10 @@ module _ {T A : Type 0} (table : RuleTable T A) (one : clients_of table ≡ 1) (
             × ((s : ℕ) → s ≢ slot
             → shown_at (world_at table b) s ≡ shown_at (world_at table wrote) s)
         told =
-            show_tells (world_at table wrote) (world_at table b) (view wrote).client
-            h.made.key.w0 h.made.key.w1 h.made.charge weight h.called h.made.value slot took.2.0 _
-            (event_alone table one (show_done weight h.called h.made (view wrote)) wrote b
-            h.builds.3) mine (ap (λ xs. slice_get xs slot) kept.0 ∙ took.2.1)
+            show_tells (world_at table wrote) (world_at table b) (view wrote).client h.made.key.w0
+            h.made.key.w1 h.made.charge weight h.called h.made.value slot took.2.0 _
+            (event_alone table one _ wrote b h.builds.3) mine
+            (ap (λ xs. slice_get xs slot) kept.0 ∙ took.2.1)
 
         asked : key_of told.0.0 ≡ key
         asked =
@@ -261,8 +238,8 @@ module _ {T A : Type 0} (table : RuleTable T A) (one : clients_of table ≡ 1) (
       inserts_shown (Placed slot) m =
           let lacks = probes_lack 0 m.earlier before m.between old m.mid m.probes in
           let at = probe_slot (slots_of table) key (length m.earlier) in
-          let shows = placed_shows at m.mid m.done m.tries.3 in
-          let back = unpassed m.done new m.rest in
+          let shows = placed_shows m.tries.3 in
+          let back = unpassed m.rest in
           subst (λ s. ShowsMore (slots_of table) key s (world_at table old) (world_at table new))
           (sym m.tries.0)
           (record {
@@ -277,8 +254,8 @@ module _ {T A : Type 0} (table : RuleTable T A) (one : clients_of table ≡ 1) (
       inserts_shown Matched m =
           let lacks = probes_lack 0 m.earlier before m.between old m.mid m.probes in
           let at = probe_slot (slots_of table) key (length m.earlier) in
-          let shows = matches_show at m.counted after m.mid m.done m.tries in
-          let back = unpassed m.done new m.rest in (
+          let shows = matches_show m.tries in
+          let back = unpassed m.rest in (
             length m.earlier,
             elim (cases_lt (length m.earlier) (slots_of table)) [
               | inl low ↦ low
@@ -298,8 +275,8 @@ module _ {T A : Type 0} (table : RuleTable T A) (one : clients_of table ≡ 1) (
       inserts_shown NoSlot m =
           let lacks = probes_lack 0 m.earlier before m.between old m.mid m.probes in
           let at = probe_slot (slots_of table) key (length m.earlier) in
-          let last = passed_lacks at m.tries.0 m.counted after m.mid m.done m.tries.1 in
-          let back = unpassed m.done new m.rest in
+          let last = passed_lacks m.tries.1 in
+          let back = unpassed m.rest in
           let whole = m.all refl in (
             λ slot near.
                 let there = probe_of_slot (slots_of table) key table.limits.power slot near in

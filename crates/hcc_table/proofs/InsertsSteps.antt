@@ -27,9 +27,11 @@ module _ {T A : Type 0} (fits : T → Key → List ℕ → Type 0) (table : Rule
   tried_none =
       seen_none (slots_of table) key (PassesTaken fits table key name weight) (λ _. Unit {0})
 
-  module _ (i slot : ℕ) (answer : Insertion) (e f counted g : Effort) (old now mid new : SeatOf T)
-      (h : HasTried i e f old now) (there : slot ≡ probe_slot (slots_of table) key i)
-      (visited : VisitedSlots 1 f counted)
+module _ {T A : Type 0} {fits : T → Key → List ℕ → Type 0} {table : RuleTable T A} {key : Key}
+    {name weight : ℕ} where
+  module _ {i slot : ℕ} {answer : Insertion} {e f counted g : Effort} {old now mid new : SeatOf T}
+      (h : HasTried fits table key name weight i e f old now)
+      (there : slot ≡ probe_slot (slots_of table) key i) (visited : VisitedSlots 1 f counted)
       (tries : TriesAt fits table key name weight slot answer counted g now mid) where
     -- It ends here.
     pub inserts_here : (answer ≡ NoSlot → i + 1 ≡ slots_of table)
@@ -54,16 +56,16 @@ module _ {T A : Type 0} (fits : T → Key → List ℕ → Type 0) (table : Rule
     }
 
   -- It goes on.
-  pub tried_then : (i slot : ℕ) (e f counted g : Effort) (old now mid new : SeatOf T)
-      → HasTried i e f old now → slot ≡ probe_slot (slots_of table) key i
+  pub tried_then : {i slot : ℕ} {e f counted g : Effort} {old now mid new : SeatOf T}
+      → HasTried fits table key name weight i e f old now → slot ≡ probe_slot (slots_of table) key i
       → VisitedSlots 1 f counted
       → TriesAt fits table key name weight slot NoSlot counted g now mid
       → MakesSome (address_of_displacement table slot) 1 0 mid new
       → view new ≡ after_pass slot (view mid) → IsEvent table (pass_done slot (view mid)) mid new
-      → HasTried (i + 1) e g old new
-  tried_then i slot e f counted g old now mid new h there visited passes step passed event =
-      seen_then (slots_of table) key (PassesTaken fits table key name weight) (λ _. Unit {0}) i slot
-      passes.0 e f g old now new h there one tt
+      → HasTried fits table key name weight (i + 1) e g old new
+  tried_then {i} {slot} {e} {f} {counted} {g} {old} {now} {mid} {new} h there visited passes step
+      passed event =
+      seen_then h there one tt
     where
       one : PassesTaken fits table key name weight slot passes.0 f g now new
       one = record {

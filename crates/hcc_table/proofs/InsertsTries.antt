@@ -33,16 +33,15 @@ module _ {T : Type 0} where
       → length w.work.trail ≡ i
   probed_long {slots = slots} {key = key} {i = i} {seat = seat} {now = now} power s tried =
       ap (λ (z : View T). length z.work.trail) tried.same
-      ∙ ap length (trail_is (trail_to slots key (probe_slot slots key i)) (view seat) (view now)
-      s.tried)
+      ∙ ap length (trail_is (view seat) s.tried)
       ∙ trail_length slots key power i s.inside
 
   module _ (slots : ℕ) (draft : Draft) (value : List ℕ) (power : MOST_SLOTS % slots ≡ 0) where
     -- It begins at the first probe.
-    pub tries_first : (walk : Walk) (seat : SeatOf T) → walk.probe ≡ draft.key.w1
+    pub tries_first : {walk : Walk} {seat : SeatOf T} → walk.probe ≡ draft.key.w1
         → walk.stride ≡ bit_or draft.key.w0 1 → walk.mask ≡ slots - 1 → (view seat).work.trail ≡ []
         → IsTrying slots draft.key 0 walk seat seat
-    tries_first walk seat probe stride mask none = record {
+    tries_first {walk} {seat} probe stride mask none = record {
       same = record { table = refl; number = refl; slots = refl };
       walking = record {
         probe = rw (probe, mask) (first_masked slots draft.key power);
@@ -50,12 +49,12 @@ module _ {T : Type 0} where
         mask = mask;
       };
       inside = some_slots slots power;
-      tried = rw (trail_start slots draft.key power, ← none) (tried_refl (view seat));
+      tried = rw (trail_start slots draft.key power, ← none) (tried_refl);
       saw = omega arith;
       dead = buried_none slots draft.key (view seat) (view seat);
     }
 
-    module _ (i slot : ℕ) (walk : Walk) (seat now : SeatOf T)
+    module _ {i slot : ℕ} {walk : Walk} {seat now : SeatOf T}
         (s : IsTrying slots draft.key i walk seat now)
         (there : slot ≡ bit_and walk.probe walk.mask) where
       abbrev trail : List ℕ
@@ -65,22 +64,21 @@ module _ {T : Type 0} where
       slot_is : slot ≡ probe_slot slots draft.key i
       slot_is = there ∙ s.walking.probe
 
-      module _ (probed : SeatOf T) (same : IsSameSeat now probed) where
+      module _ {probed : SeatOf T} (same : IsSameSeat now probed) where
         probed_same : IsSameSeat seat probed
         probed_same = seat_then seat now probed s.same same
 
         -- The slot was empty, and the entry is shown there.
-        pub tries_placed : (at : ℕ) → TriedAt slot draft value (Placed at) (view now) (view probed)
+        pub tries_placed : {at : ℕ} → TriedAt slot draft value (Placed at) (view now) (view probed)
             → (view seat).work.trail ≡ []
             → InsertedBy slots draft value (Placed at) (view seat) (view probed)
-        tries_placed at told none = (
+        tries_placed told none = (
           i,
           rw told.0 record {
             low = rw slot_is (probe_inside slots draft.key i (some_slots slots power));
             inside = s.inside;
             probe = slot_is;
-            tried = tried_show trail (view seat) (view now) s.tried slot draft value (view probed)
-                told.1;
+            tried = tried_show (view seat) s.tried slot draft value told.1;
             saw = ap (λ (z : View T). z.saw) told.1 ∙ s.saw;
             dead = rw told.1 s.dead;
           },
@@ -88,15 +86,13 @@ module _ {T : Type 0} where
 
         module _ (tried : Tried (view now) (view probed)) where
           tried_all : Tried (with_trail trail (view seat)) (view probed)
-          tried_all = tried_then (with_trail trail (view seat)) (view now) (view probed) s.tried
-              tried
+          tried_all = tried_then s.tried tried
 
           -- The trail is taken back.
           probed_back : (new : SeatOf T) → (view seat).work.trail ≡ []
               → view new ≡ with_trail [] (view probed)
               → Tried (view seat) (view new)
-          probed_back new none back =
-              tried_back trail (view seat) (view probed) tried_all (view new) none back
+          probed_back new none back = tried_back (view seat) tried_all none back
 
           -- One probe more was tried, and what is held there is dead.
           module _ (dead : Buried draft.key (λ s. s ≡ slot) (view now) (view probed)) where
@@ -108,12 +104,12 @@ module _ {T : Type 0} where
                 (rw (← slot_is) dead)
 
             -- The slot is passed, and the next probe is to be tried.
-            pub tries_next : (new : SeatOf T) (next : Walk)
+            pub tries_next : {new : SeatOf T} {next : Walk}
                 → i + 1 < slots → (view probed).saw ≡ (view now).saw + 1
                 → IsSameSeat probed new → view new ≡ after_pass slot (view probed)
                 → next.probe ≡ (walk.probe + walk.stride) % 2 ^ 64 → next.stride ≡ walk.stride
                 → next.mask ≡ walk.mask → IsTrying slots draft.key (i + 1) next seat new
-            tries_next new next more saw then passed probe stride mask = record {
+            tries_next {new} more saw then passed probe stride mask = record {
               same = seat_then seat probed new probed_same then;
               walking = record {
                 probe =
@@ -125,9 +121,8 @@ module _ {T : Type 0} where
               };
               inside = more;
               tried =
-                  tried_pass trail (view seat) (view probed) tried_all slot
-                  (trail_to slots draft.key (probe_slot slots draft.key (i + 1))) (view new) passed
-                  (trail_next slots draft.key power i more
+                  tried_pass (view seat) tried_all slot passed (trail_next slots draft.key power i
+                  more
                   ∙ ap (λ z. trail ++ z ∷ []) (sym slot_is));
               saw =
                   let first = s.saw in

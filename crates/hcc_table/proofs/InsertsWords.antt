@@ -14,10 +14,10 @@ use Rattle.hcc_table.proofs.Finds.{seat_then}
 
 module _ {T : Type 0} where
   -- a seat whose tag stays is a seat of the table still
-  pub seat_tagged : (id : _) (tag : T) (seat new : SeatOf T) → IsSeatOf id tag seat
+  pub seat_tagged : {id : _} {tag : T} {seat new : SeatOf T} → IsSeatOf id tag seat
       → IsSameSeat seat new
       → (view new).tag ≡ (view seat).tag → IsSeatOf id tag new
-  seat_tagged id tag seat new old same tagged = record {
+  seat_tagged old same tagged = record {
     table = same.table ∙ old.table;
     slots = same.slots ∙ old.slots;
     tagged = tagged ∙ old.tagged;
@@ -31,21 +31,20 @@ module _ {T : Type 0} where
         (view seat)
 
   -- None is written yet.
-  pub writes_none : (value : List ℕ) (seat : SeatOf T) → IsWriting value 0 seat seat
-  writes_none value seat = record {
+  pub writes_none : {value : List ℕ} {seat : SeatOf T} → IsWriting value 0 seat seat
+  writes_none {seat = seat} = record {
     same = record { table = refl; number = refl; slots = refl };
     written = ap (λ ws. with_words ws (view seat)) (sym (append-nil (view seat).written));
   }
 
-  module _ (value : List ℕ) (k : ℕ) (seat now : SeatOf T) (s : IsWriting value k seat now) where
+  module _ {value : List ℕ} {k : ℕ} {seat now : SeatOf T} (s : IsWriting value k seat now) where
     -- The seat is one of the table, and its client builds the slot.
-    pub still_seat : (id : _) (tag : T) → IsSeatOf id tag seat → IsSeatOf id tag now
-    still_seat id tag old =
-        seat_tagged id tag seat now old s.same (ap (λ (z : View T). z.tag) s.written)
+    pub still_seat : {id : _} {tag : T} → IsSeatOf id tag seat → IsSeatOf id tag now
+    still_seat {id} {tag} old = seat_tagged old s.same (ap (λ (z : View T). z.tag) s.written)
 
-    pub still_builds : (slot : ℕ) → (view seat).work.owned ≡ owned.ForBuilding slot
+    pub still_builds : {slot : ℕ} → (view seat).work.owned ≡ owned.ForBuilding slot
         → (view now).work.owned ≡ owned.ForBuilding slot
-    still_builds slot builds = ap (λ (z : View T). z.work.owned) s.written ∙ builds
+    still_builds builds = ap (λ (z : View T). z.work.owned) s.written ∙ builds
 
     -- The next word is the one behind these.
     pub next_word : length (view seat).written ≡ PAYLOAD → PAYLOAD + k ≡ length (view now).written
@@ -57,10 +56,10 @@ module _ {T : Type 0} where
         omega arith
 
     -- One word more.
-    pub writes_more : (new : SeatOf T) (word : ℕ) → IsSameSeat now new
+    pub writes_more : {new : SeatOf T} {word : ℕ} → IsSameSeat now new
         → view new ≡ after_write word (view now)
         → word ≡ payload_word value k → IsWriting value (k + 1) seat new
-    writes_more new word same wrote is = record {
+    writes_more {new} {word} same wrote is = record {
       same = seat_then seat now new s.same same;
       written = wrote ∙ ap (λ (z : View T). after_write word z) s.written
           ∙ ap (λ ws. with_words ws (view seat)) more;

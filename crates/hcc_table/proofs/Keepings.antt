@@ -174,7 +174,7 @@ pub frees_unmarked : {T A : Type 0} {table : RuleTable T A} {slot word : ℕ} {r
 frees_unmarked {word = word} {room = room} {a = a} {b = b} h = by (room && is_due false word) refl
   where
     by : (due : Bool) → (room && is_due false word) ≡ due → AddsUnmarked a b
-    by false is = unmarked_none a b (h.tries.passed is)
+    by false is = unmarked_none (h.tries.passed is)
     by true is =
         let lost = (h.tries.tried is).0 in
-        unmarked_one _ a b lost.2.step (due_unlike room word is)
+        unmarked_one _ lost.2.step (due_unlike room word is)

@@ -20,7 +20,7 @@ use Rattle.hcc_rule.specs.declared.table.RuleTable.{RuleTable}
 use Rattle.hcc_rule.specs.declared.view.Record.{Record}
 use Rattle.hcc_rule.specs.Acts.{Leads}
 use Rattle.hcc_rule.specs.Callers.{clients_of, world_at}
-use Rattle.hcc_rule.specs.Events.{acquire_done, give_done, look_done}
+use Rattle.hcc_rule.specs.Events.{acquire_done}
 use Rattle.hcc_rule.specs.Records.{record_in}
 use Rattle.hcc_rule.specs.Seats.{SeatOf, view}
 use Rattle.hcc_table.specs.declared.efforts.Effort.{Effort}
@@ -28,7 +28,7 @@ use Rattle.hcc_table.specs.declared.keeping.AtSlot.{AtSlot}
 use Rattle.hcc_table.specs.declared.keeping.AtSlot.TheVariants.{Nothing, Held, Freed}
 use Rattle.hcc_table.specs.declared.pins.Pin.{Pin}
 use Rattle.hcc_table.specs.AtSlots.{Frees, HoldsShown, IsShownBy, PinsAt, PinsLasting, ShowsNoneOnce, TakesUnheld, freed_there}
-use Rattle.hcc_table.specs.Freed.{TakesByWhereDue, free_event, is_due}
+use Rattle.hcc_table.specs.Freed.{TakesByWhereDue, is_due}
 use Rattle.hcc_table.specs.Seeking.{Seeks}
 use Rattle.hcc_table.specs.Standing.{IsMomentOf, ShowsOnce, ShowsSame, shown_at}
 use Rattle.hcc_table.proofs.Lasting.{alone_shows, looks_led, looks_seek, met_there, moment_shows, reached_seeks}
@@ -86,7 +86,7 @@ module _ {T A : Type 0} (fits : T → Key → List ℕ → Type 0) (table : Rule
             subst (Seeks table h.mid) (sym (h.stray away)) (seeks_none table h.mid)
         hidden off true has =
             let given = h.hidden (rw (has, off) refl) in
-            seeks_one table (give_done 1 name given.0 (view h.mid)) h.mid b given.2 refl
+            seeks_one table _ h.mid b given.2 refl
 
         by : (shown : Bool) → is_visible h.word ≡ shown → Seeks table h.mid b
         by true on = subst (Seeks table h.mid) (sym (h.shown on).1) (seeks_none table h.mid)
@@ -95,8 +95,8 @@ module _ {T A : Type 0} (fits : T → Key → List ℕ → Type 0) (table : Rule
     -- So is all behind the add,
     added_seek : Seeks table h.reaches.by.mid b
     added_seek =
-        seeks_then table h.reaches.by.mid h.mid b
-        (reached_seeks table slot 1 name h.word a h.mid h.reaches.by) kept_seek
+        seeks_then table _ h.mid b (reached_seeks table slot 1 name h.word a h.mid h.reaches.by)
+        kept_seek
 
     -- and with it.
     holds_seek : Seeks table a b
@@ -106,9 +106,7 @@ module _ {T A : Type 0} (fits : T → Key → List ℕ → Type 0) (table : Rule
 
     added_leads : (w : State) × Leads w (acquire_done slot 1 name h.word (view a))
         (world_at table h.reaches.by.mid)
-    added_leads =
-        event_leads table (acquire_done slot 1 name h.word (view a)) a h.reaches.by.mid
-        h.reaches.by.adds
+    added_leads = event_leads table _ a h.reaches.by.mid h.reaches.by.adds
 
     -- where the add found the slot not visible it showed nothing then
     added_none : is_visible h.word ≡ false
@@ -144,12 +142,12 @@ module _ {T A : Type 0} (fits : T → Key → List ℕ → Type 0) (table : Rule
       by false takes = subst (Seeks table a) (sym (takes.1 refl)) (seeks_none table a)
       by true takes =
           let lost = (takes.0 refl).lost in
-          seeks_one table (look_done slot lost.0 (view a)) a b lost.2 refl
+          seeks_one table _ a b lost.2 refl
 
   -- In a shard of one client a slot that showed nothing once shows nothing when the call began.
-  once_none : clients_of table ≡ 1 → (old last : SeatOf T) → ShowsNoneOnce table slot old last
+  once_none : clients_of table ≡ 1 → {old last : SeatOf T} → ShowsNoneOnce table slot old last
       → shown_at (world_at table old) slot ≡ None
-  once_none one old last h = sym (moment_shows table one old h.0 last h.1 slot) ∙ h.2
+  once_none one {old} {last} h = sym (moment_shows table one h.1 slot) ∙ h.2
 
   module _ {room : Bool} {before after : Effort} {old new : SeatOf T} where
     module _ (done : AtSlot) (h : PinsAt fits table name slot room done before after old new) where
@@ -161,24 +159,21 @@ module _ {T A : Type 0} (fits : T → Key → List ℕ → Type 0) (table : Rule
       unfreed_seek none = by (is_visible h.seen) refl
         where
           by : (b : Bool) → is_visible h.seen ≡ b → Seeks table old new
-          by true on =
-              seeks_then table old h.looked new looked (holds_seek (h.shown on).0)
+          by true on = seeks_then table old _ new looked (holds_seek (h.shown on).0)
           by false off =
-              seeks_then table old h.looked new looked
-              (frees_seek (subst (λ o. Frees table slot h.seen room o before after h.looked new)
-              none (h.unshown off).1))
+              seeks_then table old _ new looked (frees_seek
+              (subst (λ o. Frees table slot h.seen room o before after h.looked new) none
+              (h.unshown off).1))
 
       -- the look was a moment of what came with it
-      look_moment : (last : SeatOf T) → Seeks table h.looked last
+      look_moment : {last : SeatOf T} → Seeks table h.looked last
           → IsMomentOf table h.looked old last
-      look_moment last rest =
-          moment_of table (look_done slot h.seen (view old)) old old h.looked last
-          (led_none table old) h.looks.2 refl refl rest
+      look_moment {last} rest = moment_of table (led_none table old) h.looks.2 refl refl rest
 
       -- where it found the slot not visible, that showed nothing then
       look_none : is_visible h.seen ≡ false → shown_at (world_at table h.looked) slot ≡ None
       look_none off =
-          let led = event_leads table (look_done slot h.seen (view old)) old h.looked h.looks.2 in
+          let led = event_leads table _ old h.looked h.looks.2 in
           look_tells led.0 (world_at table h.looked) (view old).client slot h.seen led.1 off
 
       -- the add was a moment of all
@@ -186,9 +181,7 @@ module _ {T A : Type 0} (fits : T → Key → List ℕ → Type 0) (table : Rule
           → IsMomentOf table (h.shown on).0.reaches.by.mid old new
       add_moment on =
           let held = (h.shown on).0 in
-          moment_of table (acquire_done slot 1 name held.word (view h.looked)) old h.looked
-          held.reaches.by.mid new (looks_led table slot h.seen old h.looked h.looks)
-          held.reaches.by.adds refl refl (added_seek held)
+          moment_of table (looks_led table h.looks) held.reaches.by.adds refl refl (added_seek held)
 
     -- What a walk holds, holds not or frees at a slot.
     pub pins_last : (done : AtSlot) → PinsAt fits table name slot room done before after old new
@@ -209,7 +202,7 @@ module _ {T A : Type 0} (fits : T → Key → List ℕ → Type 0) (table : Rule
         by true on = added on (is_visible (h.shown on).0.word) refl
         by false off = (
           h.looked,
-          look_moment Nothing h new (frees_seek (h.unshown off).1),
+          look_moment Nothing h (frees_seek (h.unshown off).1),
           look_none Nothing h off,
         )
     pins_last (Held pin) h = by (is_visible h.seen) refl
@@ -240,8 +233,7 @@ module _ {T A : Type 0} (fits : T → Key → List ℕ → Type 0) (table : Rule
             → TakesUnheld table slot charge h.looked new
         freed f =
             let free = (f.takes.0 f.tries.won.0).won in
-            let led = event_leads table (free_event slot None charge (view h.looked)) h.looked
-            free.0 free.1 in
+            let led = event_leads table _ h.looked free.0 free.1 in
             record {
               took = free.0;
               event = free.1;
@@ -260,7 +252,7 @@ module _ {T A : Type 0} (fits : T → Key → List ℕ → Type 0) (table : Rule
           h.looked,
           (
             h.looked,
-            look_moment (Freed charge) h h.looked (seeks_none table h.looked),
+            look_moment (Freed charge) h (seeks_none table h.looked),
             look_none (Freed charge) h off,
           ),
           freed (h.unshown off).1,
@@ -270,21 +262,21 @@ module _ {T A : Type 0} (fits : T → Key → List ℕ → Type 0) (table : Rule
     module _ (one : clients_of table ≡ 1) where
       pub pins_shown : (done : AtSlot) → PinsAt fits table name slot room done before after old new
           → IsShownBy (shown_at (world_at table old) slot) name done (view new)
-      pins_shown Nothing h = once_none one old new (pins_last Nothing h)
+      pins_shown Nothing h = once_none one (pins_last Nothing h)
       pins_shown (Held pin) h =
           let there = some_and (record_in name (view new).records) _ (pins_last (Held pin) h) in
-          subst (λ o. IsSomeAnd o
-          (λ (r : Record). shown_at (world_at table old) slot ≡ Some r.entry)) (sym there.1)
-          (sym (moment_shows table one old there.2.0 new there.2.1 slot) ∙ there.2.2)
+          subst
+          (λ o. IsSomeAnd o (λ (r : Record). shown_at (world_at table old) slot ≡ Some r.entry))
+          (sym there.1) (sym (moment_shows table one there.2.1 slot) ∙ there.2.2)
       pins_shown (Freed charge) h =
           let last = pins_last (Freed charge) h in
-          once_none one old last.0 last.1
+          once_none one last.1
 
       -- and takes away nothing that is shown.
       pub pins_stay : (done : AtSlot) → PinsAt fits table name slot room done before after old new
           → ShowsSame (world_at table old) (world_at table new)
-      pins_stay Nothing h = alone_shows table one old new (unfreed_seek Nothing h refl)
-      pins_stay (Held pin) h = alone_shows table one old new (unfreed_seek (Held pin) h refl)
+      pins_stay Nothing h = alone_shows table one (unfreed_seek Nothing h refl)
+      pins_stay (Held pin) h = alone_shows table one (unfreed_seek (Held pin) h refl)
       pins_stay (Freed charge) h = λ s. by s (is_visible h.seen) refl
         where
           none : shown_at (world_at table old) slot ≡ None
@@ -294,15 +286,15 @@ module _ {T A : Type 0} (fits : T → Key → List ℕ → Type 0) (table : Rule
               → (s : ℕ) → (s ≡ slot) ⊎ ¬ (s ≡ slot)
               → shown_at (world_at table new) s ≡ shown_at (world_at table old) s
           left f s here =
-              let but = takes_show table one slot h.seen None (room && is_due false h.seen)
-              (Some charge) h.looked new f.takes f.tries.won.0 in
+              let but = takes_show table one (room && is_due false h.seen) (Some charge) f.takes
+              f.tries.won.0 in
               elim here [
                 | inl is ↦
                     subst (λ n. shown_at (world_at table new) n ≡ shown_at (world_at table old) n)
                     (sym is) (but.gone ∙ sym none)
                 | inr other ↦
                     but.others s other
-                    ∙ alone_shows table one old h.looked (looked (Freed charge) h) s
+                    ∙ alone_shows table one (looked (Freed charge) h) s
               ]
 
           by : (s : ℕ) → (b : Bool) → is_visible h.seen ≡ b

@@ -34,9 +34,9 @@ module _ {T A : Type 0} (table : RuleTable T A) where
   loads_none a = record { own = []; does = refl; only = tt }
 
   -- one load
-  pub loads_one : (done : Done) (a b : SeatOf T) → IsEvent table done a b
+  pub loads_one : {done : Done} {a b : SeatOf T} → IsEvent table done a b
       → is_load done.event ≡ true → OnlyLoads table a b
-  loads_one done a b event load =
+  loads_one {done} {a} {b} event load =
       record { own = done ∷ []; does = (b, event, refl); only = (load, tt) }
 
   -- some loads and then others

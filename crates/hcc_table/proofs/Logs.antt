@@ -11,8 +11,8 @@ use Rattle.hcc_rule.proofs.Basics.Lists.{each_append}
 use Rattle.hcc_table.specs.Steps.{Adds, AddsUnmarked, Among, Begins, BeginsWithTwo, Ends, MakesTwo, after}
 
 -- a weight isn't the hit bit, and neither is a word near its end
-pub light : (weight : ℕ) → weight ≤ MOST_WEIGHT → ¬ (weight ≡ HIT_BIT)
-light weight few same = omega arith
+pub light : {weight : ℕ} → weight ≤ MOST_WEIGHT → ¬ (weight ≡ HIT_BIT)
+light few same = omega arith
 
 pub unlike_hit : (word : ℕ) → IsCorrectable word → ¬ (word ≡ HIT_BIT)
 unfolding releases_of
@@ -34,29 +34,31 @@ module _ {T : Type 0} where
     g.1 ∙ ap (λ xs. xs ++ g.0) h.1 ∙ append_assoc (steps a) h.0 g.0,
   )
 
+  pub unmarked_adds : {a b : SeatOf T} → AddsUnmarked a b → Adds a b
+  unmarked_adds h = (h.more, h.adds)
+
   -- The same of steps that set no hit bit.
-  pub unmarked_none : (a b : SeatOf T) → steps b ≡ steps a → AddsUnmarked a b
-  unmarked_none a b same = ([], same ∙ sym (append-nil (steps a)), tt)
+  pub unmarked_none : {a b : SeatOf T} → steps b ≡ steps a → AddsUnmarked a b
+  unmarked_none {a} same =
+      record { more = []; adds = same ∙ sym (append-nil (steps a)); unmarked = tt }
 
-  pub unmarked_one : (one : Atomic) (a b : SeatOf T) → steps b ≡ after (steps a) one
+  pub unmarked_one : (one : Atomic) {a b : SeatOf T} → steps b ≡ after (steps a) one
       → ¬ (one.first ≡ HIT_BIT) → AddsUnmarked a b
-  unmarked_one one a b is other = (one ∷ [], is, (other, tt))
+  unmarked_one one is other = record { more = one ∷ []; adds = is; unmarked = (other, tt) }
 
-  pub unmarked_then : (a b c : SeatOf T) → AddsUnmarked a b → AddsUnmarked b c → AddsUnmarked a c
-  unmarked_then a b c h g = (
-    h.0 ++ g.0,
-    g.1 ∙ ap (λ xs. xs ++ g.0) h.1 ∙ append_assoc (steps a) h.0 g.0,
-    each_append (λ (step : Atomic). ¬ (step.first ≡ HIT_BIT)) h.0 g.0 h.2 g.2,
-  )
-
-  pub unmarked_adds : (a b : SeatOf T) → AddsUnmarked a b → Adds a b
-  unmarked_adds a b h = (h.0, h.1)
+  pub unmarked_then : {a b c : SeatOf T} → AddsUnmarked a b → AddsUnmarked b c → AddsUnmarked a c
+  unmarked_then {a} h g = record {
+    more = h.more ++ g.more;
+    adds = g.adds ∙ ap (λ xs. xs ++ g.more) h.adds ∙ append_assoc (steps a) h.more g.more;
+    unmarked = each_append (λ (step : Atomic). ¬ (step.first ≡ HIT_BIT)) h.more g.more h.unmarked
+        g.unmarked;
+  }
 
   -- a load that found something, a give, and the like
-  pub unmarked_zero : (address found : ℕ) (a b : SeatOf T)
+  pub unmarked_zero : {address found : ℕ} {a b : SeatOf T}
       → Makes address 0 0 found a b → AddsUnmarked a b
-  unmarked_zero address found a b h =
-      unmarked_one (atomic address 0 0 found) a b h.step (light 0 (omega arith))
+  unmarked_zero {address} {found} h =
+      unmarked_one (atomic address 0 0 found) h.step (light (omega arith))
 
   -- one step after another
   pub makes_two : (one two : Atomic) (a b c : SeatOf T) → steps b ≡ after (steps a) one

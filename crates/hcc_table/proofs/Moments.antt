@@ -32,10 +32,10 @@ none_shown world key slot none shows =
     absurd (subst (λ o. IsSomeAnd o (λ e. key_of e ≡ key)) none shows)
 
 -- the last event of a run
-run_last : (history : List Done) (done : Done) (world last : State)
+run_last : (history : List Done) (done : Done) (world : State) {last : State}
     → IsRun world (history ++ done ∷ []) last → (w : State) × Leads w done last
-run_last [] done world last is = (world, subst (λ w. Leads world done w) (sym is.2) is.1)
-run_last (d ∷ ds) done world last is = run_last ds done is.0 last is.2
+run_last [] done world is = (world, subst (λ w. Leads world done w) (sym is.2) is.1)
+run_last (d ∷ ds) done world {last} is = run_last ds done is.0 is.2
 
 module _ {T A : Type 0} (table : RuleTable T A) where
   -- What a seat's own event led to.
@@ -45,7 +45,6 @@ module _ {T A : Type 0} (table : RuleTable T A) where
       let known : past b ≡ past a ++ event.0.others ++ done ∷ [] =
       event.0.past ∙ sym (append_assoc (past a) event.0.others (done ∷ [])) in
       let last = run_last (past a ++ event.0.others) done (begun_world (plan_of table))
-      event.1.world
       (subst (λ h. IsRun (begun_world (plan_of table)) h event.1.world) known event.1.run) in (
         last.0,
         subst (λ w. Leads last.0 done w)
@@ -81,16 +80,16 @@ module _ {T A : Type 0} (table : RuleTable T A) where
   pub led_none : (a : SeatOf T) → Led a a
   led_none a = record { seeks = seeks_none table a; same = refl }
 
-  pub led_then : (a b c : SeatOf T) → Led a b → Led b c → Led a c
-  led_then a b c h g =
+  pub led_then : {a b c : SeatOf T} → Led a b → Led b c → Led a c
+  led_then {a} {b} {c} h g =
       record { seeks = seeks_then table a b c h.seeks g.seeks; same = g.same ∙ h.same }
 
   -- right behind an own event of a search
-  pub moment_of : (done : Done) (old before moment new : SeatOf T) → Led old before
+  pub moment_of : {done : Done} {old before moment new : SeatOf T} → Led old before
       → IsEvent table done before moment → is_seeking done.event ≡ true
       → client_by done.event ≡ (view before).client → Seeks table moment new
       → IsMomentOf table moment old new
-  moment_of done old before moment new led step seeking by rest =
+  moment_of {done} {old} {before} {moment} {new} led step seeking by rest =
       let first = does_more led.seeks.own old before led.seeks.does in
       let behind = step.0.others ++ done ∷ [] in
       let later = does_more rest.own moment new rest.does in
@@ -112,15 +111,15 @@ module _ {T A : Type 0} (table : RuleTable T A) where
       }
 
   -- one of what came behind a search is one of both
-  pub moment_since : (old began moment new : SeatOf T) → Led old began
+  pub moment_since : {old began moment new : SeatOf T} → Led old began
       → IsMomentOf table moment began new → IsMomentOf table moment old new
-  moment_since old began moment new led m =
+  moment_since {old} {began} led m =
       let first = does_more led.seeks.own old began led.seeks.does in
       let behind = m.since ++ m.done ∷ [] in
       record {
         before = m.before;
         done = m.done;
-        began = seeks_then table old began m.before led.seeks m.began;
+        began = seeks_then table old began _ led.seeks m.began;
         step = m.step;
         seeking = m.seeking;
         own = m.own ∙ led.same;
@@ -137,17 +136,16 @@ module _ {T A : Type 0} (table : RuleTable T A) where
 
   pub shows_since : (slot : ℕ) (e : Entry) (old began new : SeatOf T) → Led old began
       → ShowsOnce table slot e began new → ShowsOnce table slot e old new
-  shows_since slot e old began new led h = (h.0, moment_since old began h.0 new led h.1, h.2)
+  shows_since slot e old began new led h = (h.0, moment_since led h.1, h.2)
 
   pub lacks_since : (key : Key) (slot : ℕ) (old began new : SeatOf T) → Led old began
       → LacksOnce table key slot began new → LacksOnce table key slot old new
-  lacks_since key slot old began new led h =
-      (h.0, moment_since old began h.0 new led h.1, h.2)
+  lacks_since key slot old began new led h = (h.0, moment_since led h.1, h.2)
 
   -- a moment of a call is one of a call that goes on
-  pub moment_later : (moment old a b : SeatOf T) → IsMomentOf table moment old a → Seeks table a b
+  pub moment_later : {moment old a b : SeatOf T} → IsMomentOf table moment old a → Seeks table a b
       → IsMomentOf table moment old b
-  moment_later moment old a b m more =
+  moment_later {moment} {old} {a} {b} m more =
       let rest = seeks_then table moment a b m.rest more in
       let later = does_more rest.own moment b rest.does in
       record {
@@ -165,7 +163,7 @@ module _ {T A : Type 0} (table : RuleTable T A) where
       }
 
   -- and of a part of a call, in the call
-  pub lacks_within : (key : Key) (slot : ℕ) (old a b new : SeatOf T) → Led old a
+  pub lacks_within : {key : Key} {slot : ℕ} {old a b new : SeatOf T} → Led old a
       → LacksOnce table key slot a b → Seeks table b new → LacksOnce table key slot old new
-  lacks_within key slot old a b new led h more =
-      (h.0, moment_later h.0 old b new (moment_since old a h.0 b led h.1) more, h.2)
+  lacks_within {key} {slot} {old} {a} {b} {new} led h more =
+      (h.0, moment_later (moment_since led h.1) more, h.2)

@@ -31,20 +31,20 @@ use Rattle.hcc_rule.specs.Views.{Each}
 use Rattle.hcc_table.specs.Seeking.{is_write}
 use Rattle.hcc_table.specs.Standing.{entry_shown, shown_at}
 use Rattle.hcc_table.proofs.Shown.{bound, ruled, same_outcome, same_phase, unshown_phase}
-use Rattle.hcc_table.proofs.Unshown.{KeepsOwned, event_keeps, on_the_way, owned_at}
+use Rattle.hcc_table.proofs.Unshown.{KeepsOwned, each_keeps, event_keeps, on_the_way, owned_at}
 
 -- A look: the slot has this phase, and the world stays.
-looked_tells : (w next : State) (client slot : ℕ) (p : Phase) (seen : Slot)
+looked_tells : (w : State) {next : State} (client slot : ℕ) {p : Phase} {seen : Slot}
     → slice_get w.slots slot ≡ Some seen
     → look_of w client slot ≡ Ok (replies.Saw p, next)
     → (phase_of seen ≡ p) × (w.slots ≡ next.slots)
-looked_tells w next client slot p seen at is =
+looked_tells w client slot {p} {seen} at is =
     let first = bound (slot_at w slot) _ _ is in
     let second = bound (live_at w client) _ _ first.2 in
     let there : Some first.0 ≡ Some seen = sym (found_ok _ _ first.0 first.1) ∙ at in
     let same : first.0 ≡ seen = cc in
     let both = same_outcome _ _ second.2 in (
-      ap phase_of (sym same) ∙ same_phase _ p (ap (λ z. z.0) both),
+      ap phase_of (sym same) ∙ same_phase (ap (λ z. z.0) both),
       ap (λ z. z.1.slots) both,
     )
 
@@ -69,7 +69,7 @@ occupy_tells w next client slot word is taken =
         → ((s : ℕ) → shown_at next s ≡ shown_at w s)
         × (is_visible word ≡ false → shown_at next slot ≡ None)
     stays seen at look =
-        let told = looked_tells w next client slot (phase_in word) seen at look in (
+        let told = looked_tells w client slot at look in (
           λ s. ap (λ xs. option_and_then entry_shown (slice_get xs s)) (sym told.1),
           λ off.
               ap (λ xs. option_and_then entry_shown (slice_get xs slot)) (sym told.1)
@@ -154,10 +154,10 @@ pass_keeps w client slot =
           (record found { trail = found.trail ++ slot ∷ [] }) (live_ok w client found live) refl,
     ))))
 
-pub passed_keeps : (w next : State) (client slot : ℕ) (reply : Reply)
+pub passed_keeps : (w : State) {next : State} (client slot : ℕ) {reply : Reply}
     → outcome_of w (events.Pass client slot) ≡ Ok (reply, next)
     → (s : ℕ) → shown_at next s ≡ shown_at w s
-passed_keeps w next client slot reply is s =
+passed_keeps w client slot is s =
     ap (λ o. shown_at (world_after w o) s) (sym is)
     ∙ ap (λ xs. option_and_then entry_shown (slice_get xs s))
     (event_keeps w (events.Pass client slot) (pass_keeps w client slot)).0
@@ -169,17 +169,13 @@ write_keeps w client =
     on_the_way w (allow (is_building found.owned)) (λ u. Ok (replies.Ok, w))
     (λ u may. (refl, λ c. refl)))
 
-write_after : (w : State) (event : Event) → is_write event ≡ true → KeepsOwned w (after w event)
+pub write_after : (w : State) (event : Event) → is_write event ≡ true → KeepsOwned w (after w event)
 write_after w (events.Write client) is = event_keeps w (events.Write client) (write_keeps w client)
 write_after w other is = cc
 
 pub writes_keep : (ds : List Done) → Each (λ (done : Done). is_write done.event ≡ true) ds
     → (w : State) → KeepsOwned w (after_all w (events_of ds))
-writes_keep [] only w = (refl, λ c. refl)
-writes_keep (d ∷ ds) only w =
-    let first = write_after w d.event only.0 in
-    let rest = writes_keep ds only.1 (after w d.event) in
-    (rest.0 ∙ first.0, λ c. rest.1 c ∙ first.1 c)
+writes_keep = each_keeps write_after
 
 -- A use changes nothing of what is shown.
 used_shows : (client name : ℕ) (k : Reference) (seen : Slot)

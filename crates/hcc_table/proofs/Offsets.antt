@@ -16,11 +16,11 @@ across offset zero = omega arith
 across offset (suc more) = omega arith
 
 -- As many bytes as there are behind an offset are within the value.
-pub part_within : (o : Option Record) (whole offset count : ℕ) → count ≤ whole - offset
+pub part_within : (o : Option Record) (whole offset : ℕ) {count : ℕ} → count ≤ whole - offset
     → IfSome o (λ r. whole ≡ length r.entry.value)
     → IfSome o (λ r. count ≤ length r.entry.value - offset)
-part_within None whole offset count few exact = tt
-part_within (Some r) whole offset count few exact = omega arith
+part_within None whole offset few exact = tt
+part_within (Some r) whole offset few exact = omega arith
 
 -- Bytes of a word of a value, from one of them on, are the value's at that offset.
 word_part : (value : List ℕ) (k from count : ℕ) → Each (λ b. b < 256) value → from + count ≤ 8
@@ -34,15 +34,16 @@ word_part value k from count small few within =
     ∙ ap (take count) (drop-drop from (8 * k) value)))
 
 -- Bytes of one word were put to the front.
-pub put_part : (o : Option Record) (room offset front count word : ℕ) (old new : List ℕ)
+pub put_part : (o : Option Record) (room offset : ℕ) {front count : ℕ} (word : ℕ) (old : List ℕ)
+    {new : List ℕ}
     → 0 < front → front ≤ count → offset % 8 + front ≤ 8 → IfSome o (λ r. IsReadable room r)
     → IfSome o (λ r. count ≤ length r.entry.value - offset)
     → IfSome o (λ r. 8 * (offset / 8) < length r.entry.value
     → word ≡ payload_word r.entry.value (offset / 8))
     → new ≡ take front (drop (offset % 8) (to_le_bytes w64 word)) ++ drop front old
     → IfSome o (λ r. new ≡ part_in offset front r.entry.value old)
-put_part None room offset front count word old new some few short readable within told put = tt
-put_part (Some r) room offset front count word old new some few short readable within told put =
+put_part None room offset word old some few short readable within told put = tt
+put_part (Some r) room offset {front} word old some few short readable within told put =
     put ∙ ap (λ z. z ++ drop front old) same
   where
     whole : 8 * (offset / 8) + offset % 8 ≡ offset
@@ -59,15 +60,16 @@ put_part (Some r) room offset front count word old new some few short readable w
         ∙ ap (λ n. take front (drop n r.entry.value)) whole)
 
 -- The rest of a part was put behind its first bytes, into a part of the buffer that it fills.
-pub part_joined : (o : Option Record) (offset front left count from : ℕ) (old begun rest : List ℕ)
+pub part_joined : (o : Option Record) (offset front left : ℕ) {count from : ℕ}
+    (old begun rest : List ℕ)
     → count ≡ front + left → from ≡ offset + front
     → IfSome o (λ r. count ≤ length r.entry.value - offset)
     → IfSome o (λ r. begun ≡ part_in offset front r.entry.value old)
     → IfSome o (λ r. rest ≡ part_in from left r.entry.value (take left (drop front begun)))
     → IfSome o (λ r. take front begun ++ (rest ++ drop left (drop front begun))
     ≡ part_in offset count r.entry.value old)
-part_joined None offset front left count from old begun rest sum at within was is = tt
-part_joined (Some r) offset front left count from old begun rest sum at within was is =
+part_joined None offset front left old begun rest sum at within was is = tt
+part_joined (Some r) offset front left {from = from} old begun rest sum at within was is =
     rw sum (fills ahead old begun (take front begun ++ (rest ++ drop left (drop front begun)))
     front left inside was joined)
   where

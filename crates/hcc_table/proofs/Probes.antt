@@ -63,25 +63,26 @@ module _ {T : Type 0} where
   -- what a look, a mark and a give leave
   pub looked_at : (slot word : ℕ) (v w : View T) → w ≡ after_look slot word v → Sought v w
   looked_at slot word v w same = record {
-    searched = searched_by v w (found_dead slot word v) (rw same refl);
+    searched = searched_by (found_dead slot word v) (rw same refl);
     records = ap (λ (z : View T). z.records) same;
   }
 
-  pub noticed_at : (slot word : ℕ) (v w : View T) → w ≡ noticing slot word v → Sought v w
-  noticed_at slot word v w same = record {
-    searched = searched_by v w (found_dead slot word v) (rw same refl);
+  pub noticed_at : (slot word : ℕ) {v w : View T} → w ≡ noticing slot word v → Sought v w
+  noticed_at slot word {v} {w} same = record {
+    searched = searched_by (found_dead slot word v) (rw same refl);
     records = ap (λ (z : View T). z.records) same;
   }
 
   pub given_at : (slot name word : ℕ) (v w : View T) → w ≡ after_give slot name word v
       → Searched v w
-  given_at slot name word v w same = searched_by v w (found_dead slot word v) (rw same refl)
+  given_at slot name word v w same = searched_by (found_dead slot word v) (rw same refl)
 
   -- A look at a slot that isn't shown: each entry that is held there was hidden.
-  pub buried_by_dead : (key : Key) (slot word : ℕ) (v w : View T) → is_visible word ≡ false
+  pub buried_by_dead : (key : Key) {slot word : ℕ} {v : View T} (w : View T)
+      → is_visible word ≡ false
       → Backs slot word v → w.work.dead ≡ joined v.work.dead (found_dead slot word v)
       → Buried key (λ s. s ≡ slot) v w
-  buried_by_dead key slot word v w hidden backs same = from v.records backs.entry backs.one
+  buried_by_dead key {slot} {word} {v} w hidden backs same = from v.records backs.entry backs.one
     where
       from : (rs : List Record) → Each (λ (r : Record). r.slot ≡ slot → is_shareable word ≡ true) rs
           → Each (λ (r : Record). r.slot ≡ slot → stamp_on slot v.records ≡ Some r.entry.stamp) rs
@@ -94,16 +95,17 @@ module _ {T : Type 0} where
         from rs entries.1 one.1,
       )
 
-  pub buried_by_look : (key : Key) (slot word : ℕ) (v w : View T) → is_visible word ≡ false
+  pub buried_by_look : (key : Key) {slot word : ℕ} {v w : View T} → is_visible word ≡ false
       → Backs slot word v → w ≡ after_look slot word v → Buried key (λ s. s ≡ slot) v w
-  buried_by_look key slot word v w hidden backs same =
-      buried_by_dead key slot word v w hidden backs (ap (λ (z : View T). z.work.dead) same)
+  buried_by_look key {slot} {word} {v} {w} hidden backs same =
+      buried_by_dead key w hidden backs (ap (λ (z : View T). z.work.dead) same)
 
-  module _ (fits : T → Key → List ℕ → Type 0) (room slot weight name word : ℕ) (key : Key)
-      (v a b : View T) (looked : Sought v a) (h : Reached fits room slot weight name word a b) where
+  module _ {fits : T → Key → List ℕ → Type 0} {room slot weight name word : ℕ} {v a b : View T}
+      (looked : Sought v a) (h : Reached fits room slot weight name word a b) where
     -- An acquire that strayed: nothing is held there.
-    pub strayed : is_shareable word ≡ false → Sought v b × Buried key (λ s. s ≡ slot) v b
-    strayed away = (
+    pub strayed : (key : Key) → is_shareable word ≡ false
+        → Sought v b × Buried key (λ s. s ≡ slot) v b
+    strayed key away = (
       sought_then v a b looked record { searched = h.searched; records = h.stray away },
       each_map (λ r. r.slot ≡ slot → is_shareable word ≡ true)
           (λ r. key_of r.entry ≡ key → r.slot ≡ slot → is_in r.entry.stamp b.work.dead ≡ true)
@@ -126,18 +128,18 @@ module _ {T : Type 0} where
       on_record = ap (record_in name) records_are
           ∙ find_last (is_called name) v.records got_record fresh (eq-eqb name name refl)
 
-      pub holds : (d : View T) → Sought b d
+      pub holds : {d : View T} → Sought b d
           → IsSomeAnd (record_in name d.records) (λ r. (r.slot ≡ slot) × (r.weight ≡ weight))
-      holds d kept = rw (kept.records, on_record) (refl, refl)
+      holds kept = rw (kept.records, on_record) (refl, refl)
 
-      pub holds_used : (d : View T) (used : Bool) → Sought b d → used ≡ is_counting word
+      pub holds_used : {d : View T} {used : Bool} → Sought b d → used ≡ is_counting word
           → IsSomeAnd (record_in name d.records)
           (λ r. (r.slot ≡ slot) × (r.weight ≡ weight) × (used ≡ true → r.counting ≡ true))
-      holds_used d used kept is = rw (kept.records, on_record) (refl, refl, λ yes. sym is ∙ yes)
+      holds_used kept is = rw (kept.records, on_record) (refl, refl, λ yes. sym is ∙ yes)
 
-      pub holds_slot : (d : View T) → Sought b d
+      pub holds_slot : {d : View T} → Sought b d
           → IsSomeAnd (record_in name d.records) (λ r. r.slot ≡ slot)
-      holds_slot d kept = rw (kept.records, on_record) refl
+      holds_slot kept = rw (kept.records, on_record) refl
 
       -- what its key words told
       pub told_key : (P : Entry → Type 0) → IfSome (record_in name b.records) (λ r. P r.entry)
@@ -154,9 +156,9 @@ module _ {T : Type 0} where
       on_told P told = on_entry P (told_key P told)
 
       -- and no more once it was given back
-      pub given_back : (left : ℕ) (c d : View T) → Sought b c → d ≡ after_give slot name left c
+      pub given_back : (left : ℕ) {c d : View T} → Sought b c → d ≡ after_give slot name left c
           → Sought v d
-      given_back left c d kept same = record {
+      given_back left {c} {d} kept same = record {
         searched = searched_then v b d (searched_then v a b looked.searched h.searched)
             (searched_then b c d kept.searched (given_at slot name left c d same));
         records =
@@ -170,9 +172,9 @@ module _ {T : Type 0} where
       one_entry = rw (← looked.records) ((h.got has).1).same
 
       -- The entry that was found hidden is dead, and so is each of these.
-      pub buried_hidden : (d : View T) → is_visible word ≡ false → Searched b d
+      pub buried_hidden : (key : Key) {d : View T} → is_visible word ≡ false → Searched b d
           → Buried key (λ s. s ≡ slot) v d
-      buried_hidden d hidden kept =
+      buried_hidden key {d} hidden kept =
           each_map (λ r. r.slot ≡ slot → r.entry ≡ entry)
           (λ r. key_of r.entry ≡ key → r.slot ≡ slot → is_in r.entry.stamp d.work.dead ≡ true)
           (λ r same asked on. subst (λ (e : Entry). is_in e.stamp d.work.dead ≡ true)
@@ -180,37 +182,40 @@ module _ {T : Type 0} where
           v.records one_entry
 
       -- An entry of another key is none that was asked for.
-      pub buried_other : (d : View T) → ¬ (key_of entry ≡ key) → Buried key (λ s. s ≡ slot) v d
-      buried_other d other =
+      pub buried_other : {key : Key} (d : View T) → ¬ (key_of entry ≡ key)
+          → Buried key (λ s. s ≡ slot) v d
+      buried_other {key} d other =
           each_map (λ r. r.slot ≡ slot → r.entry ≡ entry)
           (λ r. key_of r.entry ≡ key → r.slot ≡ slot → is_in r.entry.stamp d.work.dead ≡ true)
           (λ r same asked on. absurd (other (ap key_of (sym (same on)) ∙ asked)))
           v.records one_entry
 
       -- Where the record is no match, it's given back.
-      pub missed_there : (left : ℕ) (c d : View T) → Sought b c → d ≡ after_give slot name left c
+      pub missed_there : {key : Key} (left : ℕ) {c d : View T} → Sought b c
+          → d ≡ after_give slot name left c
           → (is_visible word ≡ true → ¬ (key_of entry ≡ key))
           → Sought v d × Buried key (λ s. s ≡ slot) v d
-      missed_there left c d kept same other =
-          (given_back left c d kept same, by (is_visible word) refl)
+      missed_there {key} left {c} {d} kept same other =
+          (given_back left kept same, by (is_visible word) refl)
         where
           by : (b : Bool) → is_visible word ≡ b → Buried key (λ s. s ≡ slot) v d
           by true is = buried_other d (other is)
-          by false is = buried_hidden d is
+          by false is = buried_hidden key is
               (searched_then b c d kept.searched (given_at slot name left c d same))
 
       -- An entry that was found visible is met once both its key words were read.
-      key_last : is_visible word ≡ true → key_of entry ≡ key
+      key_last : {key : Key} → is_visible word ≡ true → key_of entry ≡ key
           → with_met (record_in name b.records) b.met ≡ b.met ++ key ∷ []
       key_last shown asked =
           ap (λ o. with_met o b.met) on_record
           ∙ (ap (λ s. cond s (b.met ++ key_of entry ∷ []) b.met) shown
           ∙ ap (λ k. b.met ++ k ∷ []) asked)
 
-      pub met_there : (left : ℕ) (c d : View T) → is_visible word ≡ true → key_of entry ≡ key
+      pub met_there : {key : Key} (left : ℕ) (c : View T) {d : View T} → is_visible word ≡ true
+          → key_of entry ≡ key
           → c.met ≡ with_met (record_in name b.records) b.met → d ≡ after_give slot name left c
           → (more : List Key) × (d.met ≡ v.met ++ more ++ key ∷ [])
-      met_there left c d shown asked meets same =
+      met_there {key} left c shown asked meets same =
           let before = searched_then v a b looked.searched h.searched in (
             before.met.0,
             ap (λ (z : View T). z.met) same
@@ -218,11 +223,11 @@ module _ {T : Type 0} where
           )
 
       -- The entry that was found, with the key that was asked for.
-      pub found_there : (d : View T) → weight ≡ 1 → is_visible word ≡ true → key_of entry ≡ key
-          → Sought b d
+      pub found_there : {key : Key} {d : View T} → weight ≡ 1 → is_visible word ≡ true
+          → key_of entry ≡ key → Sought b d
           → d.met ≡ with_met (record_in name b.records) b.met
           → IsFound fits room slot name key v d got_record
-      found_there d one shown asked kept meets = record {
+      found_there {key} {d} one shown asked kept meets = record {
         searched = searched_then v b d (searched_then v a b looked.searched h.searched)
             kept.searched;
         records = kept.records ∙ records_are;
@@ -270,25 +275,25 @@ module _ {T : Type 0} where
       ap (record_in name) found.records
       ∙ find_last (is_called name) v.records r fresh (eq-eqb r.name name found.called)
 
-  pub found_holds : (fits : T → Key → List ℕ → Type 0) (room slot name : ℕ) (key : Key)
-      (v w : View T) (r : Record)
+  pub found_holds : {fits : T → Key → List ℕ → Type 0} {room slot name : ℕ} {key : Key}
+      {v w : View T} {r : Record}
       → record_in name v.records ≡ None → IsFound fits room slot name key v w r
       → IsSomeAnd (record_in name w.records) (λ q. (q.slot ≡ slot) × (q.weight ≡ 1))
-  found_holds fits room slot name key v w r fresh found =
+  found_holds {fits} {room} {slot} {name} {key} {v} {w} {r} fresh found =
       rw (found_held fits room slot name key v w r fresh found) (found.on, found.single)
 
-  pub found_asked : (fits : T → Key → List ℕ → Type 0) (room slot name : ℕ) (key : Key)
-      (v w : View T) (r : Record)
+  pub found_asked : {fits : T → Key → List ℕ → Type 0} {room slot name : ℕ} {key : Key}
+      {v w : View T} {r : Record}
       → record_in name v.records ≡ None → IsFound fits room slot name key v w r
       → IsSomeAnd (record_in name w.records) (λ q. (q.slot ≡ slot) × (key_of q.entry ≡ key))
-  found_asked fits room slot name key v w r fresh found =
+  found_asked {fits} {room} {slot} {name} {key} {v} {w} {r} fresh found =
       rw (found_held fits room slot name key v w r fresh found) (found.on, found.asked)
 
-  pub found_stands : (fits : T → Key → List ℕ → Type 0) (room slot name : ℕ) (key : Key)
-      (v w : View T) (r : Record)
+  pub found_stands : {fits : T → Key → List ℕ → Type 0} {room slot name : ℕ} {key : Key}
+      {v w : View T} {r : Record}
       → record_in name v.records ≡ None → IsFound fits room slot name key v w r
       → IsSomeAnd (record_in name w.records) (λ q. q.slot ≡ slot)
-  found_stands fits room slot name key v w r fresh found =
+  found_stands {fits} {room} {slot} {name} {key} {v} {w} {r} fresh found =
       rw (found_held fits room slot name key v w r fresh found) found.on
 
   -- What is found between other searches is found by them all.

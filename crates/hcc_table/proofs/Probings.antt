@@ -33,7 +33,7 @@ pub stray_unshown : (word : ℕ) → is_shareable word ≡ false → is_visible 
 stray_unshown word stray = from (is_visible word) refl
   where
     from : (b : Bool) → is_visible word ≡ b → is_visible word ≡ false
-    from true shown = neither (is_shareable word) (visible_has word shown) stray
+    from true shown = neither _ (visible_has word shown) stray
     from false hidden = hidden
 
 pub one_longer : {A : Type 0} (xs : List A) (x : A) → length (xs ++ x ∷ []) ≡ length xs + 1
@@ -55,10 +55,11 @@ each_front P (x ∷ xs) ys h = (h.0, each_front P xs ys h.1)
 
 module _ {T P : Type 0} (slots : ℕ) (key : Key)
     (At : (slot : ℕ) → P → Effort → Effort → SeatOf T → SeatOf T → Type 0) where
-  probes_then : (i j : ℕ) (ps : List P) (p : P) (e f g : Effort) (a b c : SeatOf T)
+  probes_then : (i : ℕ) {j : ℕ} (ps : List P) {p : P} (e : Effort) {f g : Effort} (a : SeatOf T) {b
+      c : SeatOf T}
       → AtProbes slots key At i ps e f a b → j ≡ i + length ps
       → At (probe_slot slots key j) p f g b c → AtProbes slots key At i (ps ++ p ∷ []) e g a c
-  probes_then i j [] p e f g a b c none here one = (
+  probes_then i {j} [] {p} e {f} {g} a {b} {c} none here one = (
     g,
     c,
     subst (λ z. At (probe_slot slots key i) p e g z c) none.1
@@ -69,11 +70,11 @@ module _ {T P : Type 0} (slots : ℕ) (key : Key)
     where
       same : j ≡ i
       same = omega arith
-  probes_then i j (q ∷ ps) p e f g a b c first here one = (
+  probes_then i {j} (q ∷ ps) {p} e {f} {g} a {b} {c} first here one = (
     first.0,
     first.1,
     first.2,
-    probes_then (i + 1) j ps p first.0 f g first.1 b c first.3 shifted one,
+    probes_then (i + 1) ps first.0 first.1 first.3 shifted one,
   )
     where
       shifted : j ≡ i + 1 + length ps
@@ -91,32 +92,33 @@ module _ {T P : Type 0} (slots : ℕ) (key : Key)
     seen_none effort seat =
         record { seen = []; long = refl; probes = (refl, refl); goes_on = tt }
 
-    module _ (i slot : ℕ) (p : P) (e f g : Effort) (a b c : SeatOf T) (h : HasSeen i e f a b)
-        (there : slot ≡ probe_slot slots key i) (one : At slot p f g b c) where
-      -- one probe more
-      pub more_seen : AtProbes slots key At 0 (h.seen ++ p ∷ []) e g a c
-      more_seen =
-          probes_then 0 i h.seen p e f g a b c h.probes at
-          (subst (λ z. At z p f g b c) there one)
-        where
-          at : i ≡ 0 + length h.seen
-          at = omega (arith, h.long)
+module _ {T P : Type 0} {slots : ℕ} {key : Key}
+    {At : (slot : ℕ) → P → Effort → Effort → SeatOf T → SeatOf T → Type 0} {Goes : P → Type 0}
+    {i slot : ℕ} {p : P} {e f g : Effort} {a b c : SeatOf T} (h : HasSeen slots key At Goes i e f a
+    b) (there : slot ≡ probe_slot slots key i) (one : At slot p f g b c) where
+  -- one probe more
+  pub more_seen : AtProbes slots key At 0 (h.seen ++ p ∷ []) e g a c
+  more_seen =
+      probes_then slots key At 0 h.seen e a h.probes at (subst (λ z. At z p f g b c) there one)
+    where
+      at : i ≡ 0 + length h.seen
+      at = omega (arith, h.long)
 
-      abbrev pub seen_then : Goes p → HasSeen (i + 1) e g a c
-      seen_then goes = record {
-        seen = h.seen ++ p ∷ [];
-        long = one_longer h.seen p ∙ ap (λ n. n + 1) h.long;
-        probes = more_seen;
-        goes_on = each_append Goes h.seen (p ∷ []) h.goes_on (goes, tt);
-      }
+  abbrev pub seen_then : Goes p → HasSeen slots key At Goes (i + 1) e g a c
+  seen_then goes = record {
+    seen = h.seen ++ p ∷ [];
+    long = one_longer h.seen p ∙ ap (λ n. n + 1) h.long;
+    probes = more_seen;
+    goes_on = each_append Goes h.seen (p ∷ []) h.goes_on (goes, tt);
+  }
 
-module _ {T A : Type 0} (table : RuleTable T A) (key : Key) (slot : ℕ) where
+module _ {T A : Type 0} (table : RuleTable T A) {key : Key} (slot : ℕ) where
   -- loads of both halves of a key
-  pub loads_key : (w0 w1 : ℕ) (a b c : SeatOf T)
+  pub loads_key : {w0 w1 : ℕ} {a b c : SeatOf T}
       → Makes (address_of_data table slot KEY0) 0 0 w0 a b
       → Makes (address_of_data table slot KEY1) 0 0 w1 b c
       → w0 ≡ key.w0 → w1 ≡ key.w1 → LoadsKey table key slot a c
-  loads_key w0 w1 a b c first then is same =
+  loads_key {w0} {w1} {a} {b} {c} first then is same =
       makes_two (atomic (address_of_data table slot KEY0) 0 0 key.w0)
       (atomic (address_of_data table slot KEY1) 0 0 key.w1) a b c
       (subst (λ n. steps b ≡ after (steps a) (atomic (address_of_data table slot KEY0) 0 0 n)) is
@@ -125,10 +127,10 @@ module _ {T A : Type 0} (table : RuleTable T A) (key : Key) (slot : ℕ) where
       then.step)
 
   -- the first half was another, or the second
-  pub first_other : (w0 : ℕ) (a b : SeatOf T)
+  pub first_other : {w0 : ℕ} {a b : SeatOf T}
       → Makes (address_of_data table slot KEY0) 0 0 w0 a b → ¬ (w0 ≡ key.w0)
       → LoadsOther table key slot a b
-  first_other w0 a b made other =
+  first_other {w0} {a} {b} made other =
       inl (
         w0,
         other,
@@ -136,11 +138,11 @@ module _ {T A : Type 0} (table : RuleTable T A) (key : Key) (slot : ℕ) where
             made.step (adds_none b b refl),
       )
 
-  pub second_other : (w0 w1 : ℕ) (a b c : SeatOf T)
+  pub second_other : {w0 w1 : ℕ} {a b c : SeatOf T}
       → Makes (address_of_data table slot KEY0) 0 0 w0 a b
       → Makes (address_of_data table slot KEY1) 0 0 w1 b c → ¬ (w1 ≡ key.w1)
       → LoadsOther table key slot a c
-  second_other w0 w1 a b c first then other =
+  second_other {w0} {w1} {a} {b} {c} first then other =
       inr (
         w1,
         other,
@@ -176,12 +178,14 @@ module _ {T A : Type 0} (fits : T → Key → List ℕ → Type 0) (table : Rule
       seen_none (slots_of table) key (Probed fits table key name)
       (λ (p : Probe). ¬ (p.displacement ≡ 0))
 
-  module _ (i slot word n : ℕ) (e f g : Effort) (old now mid new : SeatOf T)
-      (h : HasPassed i e f old now) (there : slot ≡ probe_slot (slots_of table) key i)
-      (passes : Passes fits table key name (Looks table slot) slot 1 word f g now mid)
-      (counts : Makes (address_of_displacement table slot) 0 0 n mid new)
-      (event : IsEvent table (count_done slot n (view mid)) mid new)
-      (kept : view new ≡ view mid) where
+module _ {T A : Type 0} {fits : T → Key → List ℕ → Type 0} {table : RuleTable T A} {key : Key}
+    {name : ℕ} where
+  module _ {i slot word n : ℕ} {e f g : Effort} {old now mid new : SeatOf T}
+      (h : HasPassed fits table key name i e f old now)
+      (there : slot ≡ probe_slot (slots_of table) key i) (passes : Passes fits table key name
+      (Looks table slot) slot 1 word f g now mid) (counts : Makes
+      (address_of_displacement table slot) 0 0 n mid new) (event : IsEvent table
+      (count_done slot n (view mid)) mid new) (kept : view new ≡ view mid) where
     abbrev here : Probe
     here = record { word = word; displacement = n }
 
@@ -190,30 +194,28 @@ module _ {T A : Type 0} (fits : T → Key → List ℕ → Type 0) (table : Rule
         record { mid = mid; passes = passes; counts = counts; event = event; kept = kept }
 
     -- It goes on,
-    pub passed_then : ¬ (n ≡ 0) → HasPassed (i + 1) e g old new
-    passed_then some =
-        seen_then (slots_of table) key (Probed fits table key name)
-        (λ (p : Probe). ¬ (p.displacement ≡ 0)) i slot here e f g old now new h there probed some
+    pub passed_then : ¬ (n ≡ 0) → HasPassed fits table key name (i + 1) e g old new
+    passed_then some = seen_then h there probed some
 
     -- or ends here.
-    pub misses_here : (all : Effort) → n ≡ 0 → VisitedSlots (i + 1) g all
+    pub misses_here : {all : Effort} → n ≡ 0 → VisitedSlots (i + 1) g all
         → Misses fits table key name e all old new
-    misses_here all none visited = record {
+    misses_here {all} none visited = record {
       earlier = h.seen;
       last = here;
       between = g;
-      probes = more_seen (slots_of table) key (Probed fits table key name)
-          (λ (p : Probe). ¬ (p.displacement ≡ 0)) i slot here e f g old now new h there probed;
+      probes = more_seen h there probed;
       goes_on = h.goes_on;
       ends = inl none;
       visited = subst (λ k. VisitedSlots (k + 1) g all) (sym h.long) visited;
     }
 
   -- It ends after all probes.
-  pub misses_all : (i : ℕ) (e f all : Effort) (old now : SeatOf T) → HasPassed i e f old now
+  pub misses_all : {i : ℕ} {e f all : Effort} {old now : SeatOf T}
+      → HasPassed fits table key name i e f old now
       → 0 < i → i ≡ slots_of table → VisitedSlots i f all
       → Misses fits table key name e all old now
-  misses_all i e f all old now h some whole visited = record {
+  misses_all {i} {e} {f} {all} {old} {now} h some whole visited = record {
     earlier = split.0;
     last = split.1;
     between = f;
@@ -232,8 +234,8 @@ module _ {T A : Type 0} (fits : T → Key → List ℕ → Type 0) (table : Rule
       count = sym h.long ∙ ap length split.2 ∙ one_longer split.0 split.1
 
   -- It keeps a reference.
-  pub finds_here : (marks : Bool) (i slot word : ℕ) (e f g all : Effort)
-      (old now held new : SeatOf T) → HasPassed i e f old now
+  pub finds_here : {marks : Bool} {i slot word : ℕ} {e f g all : Effort}
+      {old now held new : SeatOf T} → HasPassed fits table key name i e f old now
       → slot ≡ probe_slot (slots_of table) key i
       → Catches fits table key name (Looks table slot) slot 1 word f g now held
       → VisitedSlots (i + 1) g all
@@ -243,8 +245,8 @@ module _ {T A : Type 0} (fits : T → Key → List ℕ → Type 0) (table : Rule
       → (new ≡ held) ⊎ IsEvent table (mark_done name (view held)) held new
       → Sought (view held) (view new)
       → Finds fits table key name marks slot word e all old new
-  finds_here marks i slot word e f g all old now held new h there catches visited marked hit
-      unasked by kept = record {
+  finds_here {f = f} {g = g} {all = all} {now = now} {held = held} h there catches visited marked
+      hit unasked by kept = record {
         earlier = h.seen;
         between = f;
         mid = now;
@@ -262,7 +264,7 @@ module _ {T A : Type 0} (fits : T → Key → List ℕ → Type 0) (table : Rule
         kept = kept;
       }
 
-module _ {T : Type 0} (address : ℕ) (a b : SeatOf T) where
+module _ {T : Type 0} {address : ℕ} {a b : SeatOf T} where
   -- a mark, where there is one
   pub marks_add : (marks hit : Bool)
       → (marks ≡ true → hit ≡ false → MakesSome address HIT_BIT 0 a b)

@@ -8,11 +8,19 @@ use Rattle.hcc_core.specs.declared.slot.Stamp.{Stamp}
 use Rattle.hcc_core.specs.References.{is_stamp, joined}
 use Rattle.hcc_core.specs.Lawful.{is_in}
 use Rattle.hcc_rule.specs.declared.key.Key.{Key}
+use Rattle.hcc_rule.specs.declared.table.RuleTable.{RuleTable}
 use Rattle.hcc_rule.specs.declared.view.View.{View}
+use Rattle.hcc_rule.specs.Addresses.{address_of_meta}
+use Rattle.hcc_rule.specs.Callers.{room_of}
+use Rattle.hcc_rule.specs.Seats.{SeatOf, view}
 use Rattle.hcc_rule.specs.ToldReferences.{Acquired, record_of, after_acquire}
 use Rattle.hcc_rule.specs.Views.{is_called}
 use Rattle.hcc_rule.specs.Records.{record_in}
+use Rattle.hcc_table.specs.declared.efforts.Effort.{Effort}
+use Rattle.hcc_table.specs.Probed.{Reaches}
 use Rattle.hcc_table.specs.Searched.{Searched, Sought, Reached}
+use Rattle.hcc_table.specs.Seeking.{ReachesBy}
+use Rattle.hcc_table.specs.Steps.{Acquires, Corrects}
 use Rattle.hcc_table.proofs.Searches.{grows_joined, searched_then, no_more}
 
 -- The last member is found where none before it passes.
@@ -49,8 +57,8 @@ joined_in stamp dead = by (list_any (is_stamp stamp) dead) refl
     by true is = is
     by false is = last dead
 
-module _ {T : Type 0} (fits : T → Key → List ℕ → Type 0) (room slot weight name word : ℕ)
-    (v u : View T) (h : Acquired fits room slot weight name word v u) where
+module _ {T : Type 0} {fits : T → Key → List ℕ → Type 0} {room slot weight name word : ℕ}
+    {v u : View T} (h : Acquired fits room slot weight name word v u) where
   -- an acquire of an entry is on record
   pub recorded : is_shareable word ≡ true → record_in name v.records ≡ None
       → (entry : Entry) × (record_in name u.records ≡ Some (record_of slot weight name word entry))
@@ -80,8 +88,8 @@ module _ {T : Type 0} (fits : T → Key → List ℕ → Type 0) (room slot weig
           }
 
   -- and what a try to relieve the counters leaves of that
-  pub reached_of : (w : View T) → Sought u w → Reached fits room slot weight name word v w
-  reached_of w then = record {
+  pub reached_of : {w : View T} → Sought u w → Reached fits room slot weight name word v w
+  reached_of {w} then = record {
     searched = searched_then v u w acquired_searched then.searched;
     stray = λ is. then.records ∙ ap (λ (z : View T). z.records) (h.stray is);
     got = λ is.
@@ -105,3 +113,14 @@ module _ {T : Type 0} (fits : T → Key → List ℕ → Type 0) (room slot weig
       → is_counting word ≡ false
       → IsSomeAnd (record_in name u.records) (λ r. (r.slot ≡ slot) × (r.counting ≡ false))
   relieves has fresh late = let got = recorded has fresh in rw got.1 (refl, late)
+
+-- all that an acquire on a slot told
+pub all_reached : {T A : Type 0} {fits : T → Key → List ℕ → Type 0} {table : RuleTable T A}
+    {name slot weight word : ℕ} {before after : Effort} {old new : SeatOf T}
+    → Reached fits (room_of table) slot weight name word (view old) (view new)
+    → Acquires (address_of_meta table slot) weight word old new
+    → Corrects (address_of_meta table slot) weight word before after old new
+    → ReachesBy table slot weight name word old new
+    → Reaches fits table name slot weight word before after old new
+all_reached reached acquires corrects by =
+    record { reached = reached; acquires = acquires; corrects = corrects; by = by }

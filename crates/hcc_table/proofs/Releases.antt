@@ -1,5 +1,5 @@
 -- What a release leaves of what a shard of one client shows.
-use Rattle.std.proofs.Common.{◌&&◌, ◌≡◌, ◌≢◌, ℕ, Bool, true, false, Option, Some, None, Ok, slice_get, sym, refl, ap, ◌∙◌, subst}
+use Rattle.std.proofs.Common.{◌&&◌, ◌≡◌, ◌≢◌, ℕ, Bool, true, false, Option, Some, None, Ok, slice_get, sym, refl, ap, ◌∙◌}
 use Rattle.std.specs.Prelude.{IfNone, IfSome, option_and_then}
 use Rattle.hcc_core.specs.declared.client.Client.{Client}
 use Rattle.hcc_core.specs.declared.client.Owned.TheVariants as owned
@@ -9,18 +9,13 @@ use Rattle.hcc_core.specs.declared.slot.Slot.{Slot}
 use Rattle.hcc_core.specs.declared.slot.Slot.TheVariants as slots
 use Rattle.hcc_core.specs.Entries.{client_freeing, free_of, may_free}
 use Rattle.hcc_core.specs.Outcomes.{allow, live_at, slot_at, with_both}
-use Rattle.hcc_core.specs.Runs.{after_all}
 use Rattle.hcc_core.specs.Steps.{outcome_of}
 use Rattle.hcc_core.specs.World.{State}
 use Rattle.hcc_core.proofs.Keeps.{found_ok, live_ok}
 use Rattle.hcc_core.proofs.ListLemmas.{read_here, read_other}
 use Rattle.hcc_rule.specs.declared.table.RuleTable.{RuleTable}
-use Rattle.hcc_rule.specs.Acts.{did, events_of, past, world_of}
-use Rattle.hcc_rule.specs.Callers.{IsEvent, clients_of, plan_of, world_at}
-use Rattle.hcc_rule.specs.Events.{give_done, look_done, spend_done}
-use Rattle.hcc_rule.specs.Opening.{begun_world}
+use Rattle.hcc_rule.specs.Callers.{IsEvent, clients_of, world_at}
 use Rattle.hcc_rule.specs.Seats.{SeatOf, view}
-use Rattle.hcc_rule.proofs.Seats.Histories.{after_more}
 use Rattle.std.proofs.Common.{option_map}
 use Rattle.hcc_table.specs.Freed.{IsLeftBy, TakesByWhereDue, free_event, is_due}
 use Rattle.hcc_table.specs.Seeking.{Empties}
@@ -30,7 +25,7 @@ use Rattle.hcc_table.proofs.Alone.{event_alone}
 use Rattle.hcc_table.proofs.Seeking.{goes_event, goes_none, goes_then}
 use Rattle.hcc_table.proofs.Shown.{bound, ruled, same_outcome}
 use Rattle.hcc_table.proofs.Still.{leaves_shown, still_alone}
-use Rattle.hcc_table.proofs.Unshown.{KeepsOwned, empty_tells, owned_at, unpasses_keep}
+use Rattle.hcc_table.proofs.Unshown.{KeepsOwned, empty_tells, goes_keep, owned_at, unpass_after}
 
 -- An entry was taken: its slot is the client's, and each other one shows what it showed.
 frees_tell : (w next : State) (client slot charge : ℕ) (name : Option ℕ)
@@ -68,18 +63,15 @@ frees_tell w next client slot charge name is =
 pub gives_still : {T A : Type 0} (table : RuleTable T A) (used : Bool)
     (slot weight name left : ℕ) (a b : SeatOf T) → IsLeftBy table slot weight name used left a b
     → GoesOnStill table a b
-gives_still table true slot weight name left a b h =
-    goes_event table is_still (spend_done weight name h.0 (view a)) a b h.2 refl
-gives_still table false slot weight name left a b h =
-    goes_event table is_still (give_done weight name h.0 (view a)) a b h.2 refl
+gives_still table true slot weight name left a b h = goes_event table is_still _ a b h.2 refl
+gives_still table false slot weight name left a b h = goes_event table is_still _ a b h.2 refl
 
 -- A release that freed nothing.
 pub unfreed_still : {T A : Type 0} (table : RuleTable T A) (slot name : ℕ)
     (room used erase : Bool) (a b : SeatOf T) → ReleasesBy table slot name room used erase None a b
     → GoesOnStill table a b
 unfreed_still table slot name room used erase a b h =
-    goes_then table is_still a h.between b
-    (gives_still table used slot 1 name h.left a h.between h.gives)
+    goes_then table is_still a _ b (gives_still table used slot 1 name h.left a h.between h.gives)
     (by (room && is_due erase h.left) h.takes)
   where
     by : (due : Bool) → TakesByWhereDue table slot h.left None due None h.between b
@@ -87,20 +79,20 @@ unfreed_still table slot name room used erase a b h =
     by false takes = goes_none table is_still h.between b (takes.1 refl)
     by true takes =
         let lost = (takes.0 refl).lost in
-        goes_event table is_still (look_done slot lost.0 (view h.between)) h.between b lost.2 refl
+        goes_event table is_still _ h.between b lost.2 refl
 
 module _ {T A : Type 0} (table : RuleTable T A) (one : clients_of table ≡ 1) where
   -- Calls that make and take no entry, and show and hide none.
   pub still_shows : (a b : SeatOf T) → GoesOnStill table a b
       → ShowsSame (world_at table a) (world_at table b)
-  still_shows = still_alone (option_and_then entry_shown) leaves_shown table one
+  still_shows = still_alone leaves_shown one
 
   -- An entry was taken, and its slot freed.
-  freed_shows : (slot charge : ℕ) (name : Option ℕ) (a took b : SeatOf T)
+  freed_shows : {slot charge : ℕ} {name : Option ℕ} (a : SeatOf T) {took : SeatOf T} (b : SeatOf T)
       → IsEvent table (free_event slot name charge (view a)) a took
       → Empties table (view a).client took b
       → ShowsBut slot (Some charge) (world_at table a) (world_at table b)
-  freed_shows slot charge name a took b event empties = record {
+  freed_shows {slot} {charge} {name} a {took} b event empties = record {
     others = λ s other. rest s ∙ told.0 s other;
     kept = tt;
     gone = rest slot ∙ ap (option_and_then entry_shown) told.1;
@@ -115,41 +107,33 @@ module _ {T A : Type 0} (table : RuleTable T A) (one : clients_of table ≡ 1) w
           × (owned_at (world_at table took) (view a).client ≡ Some (owned.ForFreeing slot))
       told =
           frees_tell (world_at table a) (world_at table took) (view a).client slot charge name
-          (event_alone table one (free_event slot name charge (view a)) a took event)
-
-      led : world_at table mid ≡ after_all (world_at table took) (events_of empties.1.more)
-      led =
-          ap (world_of (plan_of table)) empties.1.goes_on
-          ∙ after_more (past took) empties.1.more (begun_world (plan_of table))
+          (event_alone table one _ a took event)
 
       kept : KeepsOwned (world_at table took) (world_at table mid)
-      kept =
-          subst (KeepsOwned (world_at table took)) (sym led)
-          (unpasses_keep empties.1.more (empties.1.alone one) (world_at table took))
+      kept = goes_keep unpass_after one empties.1
 
       rest : (s : ℕ) → shown_at (world_at table b) s ≡ shown_at (world_at table took) s
       rest s =
           empty_tells (world_at table mid) (world_at table b) (view a).client slot (view a).client 0
-          (event_alone table one (did (events.Empty (view a).client) replies.Ok) mid b empties.2)
-          (ap (λ xs. slice_get xs slot) kept.0 ∙ told.1) (kept.1 (view a).client ∙ told.2) s
+          (event_alone table one _ mid b empties.2) (ap (λ xs. slice_get xs slot) kept.0 ∙ told.1)
+          (kept.1 (view a).client ∙ told.2) s
           ∙ ap (λ xs. option_and_then entry_shown (slice_get xs s)) kept.0
 
   -- To take an entry was tried where it was due.
-  pub takes_show : (slot word : ℕ) (name : Option ℕ) (due : Bool) (freed : Option ℕ)
-      (a b : SeatOf T) → TakesByWhereDue table slot word name due freed a b
+  pub takes_show : {slot word : ℕ} {name : Option ℕ} (due : Bool) (freed : Option ℕ) {a b : SeatOf
+      T} → TakesByWhereDue table slot word name due freed a b
       → IfSome freed (λ charge. due ≡ true)
       → ShowsBut slot freed (world_at table a) (world_at table b)
-  takes_show slot word name false (Some charge) a b h won = cc
-  takes_show slot word name false None a b h won =
+  takes_show false (Some charge) h won = cc
+  takes_show {slot} false None h won =
       let same = λ (s : ℕ). ap (λ z. shown_at (world_at table z) s) (h.1 refl) in
       record { others = λ s other. same s; kept = same slot; gone = tt }
-  takes_show slot word name true None a b h won =
+  takes_show {slot} true None {a} {b} h won =
       let lost = (h.0 refl).lost in
-      let same = still_shows a b
-      (goes_event table is_still (look_done slot lost.0 (view a)) a b lost.2 refl) in
+      let same = still_shows a b (goes_event table is_still _ a b lost.2 refl) in
       record { others = λ s other. same s; kept = same slot; gone = tt }
-  takes_show slot word name true (Some charge) a b h won =
-      let free = (h.0 refl).won in freed_shows slot charge name a free.0 b free.1 free.2
+  takes_show {slot} {word} {name} true (Some charge) {a} {b} h won =
+      let free = (h.0 refl).won in freed_shows a b free.1 free.2
 
   -- A release.
   pub releases_show : (slot name : ℕ) (room used erase : Bool) (freed : Option ℕ)
@@ -165,7 +149,7 @@ module _ {T A : Type 0} (table : RuleTable T A) (one : clients_of table ≡ 1) w
       same = still_shows a h.between (gives_still table used slot 1 name h.left a h.between h.gives)
 
       then : ShowsBut slot freed (world_at table h.between) (world_at table b)
-      then = takes_show slot h.left None _ freed h.between b h.takes h.due
+      then = takes_show _ freed h.takes h.due
 
       by : (o : Option ℕ)
           → IfNone o (shown_at (world_at table b) slot ≡ shown_at (world_at table h.between) slot)

@@ -17,8 +17,8 @@ rose_then a b c d e f old between new h g least most =
     (omega arith, λ low. omega arith, omega arith)
 
 -- less is told of it
-pub rose_within : (a b c d old new : ℕ) → c ≤ a → b ≤ d → Rose a b old new → Rose c d old new
-rose_within a b c d old new less more h =
+pub rose_within : {a b c d old new : ℕ} → c ≤ a → b ≤ d → Rose a b old new → Rose c d old new
+rose_within less more h =
     let h1 = h.1 in
     let h2 = h.2 in
     (h.0, λ low. omega arith, omega arith)
@@ -32,10 +32,11 @@ took_none effort = (
 )
 
 -- One slot more was visited, and so many exchanges were made there.
-pub took_next : (i tries more all : ℕ) (old was now then : Effort) → Took i i tries old was
+pub took_next : (i tries more all : ℕ) {old was now : Effort} (then : Effort)
+    → Took i i tries old was
     → Rose 1 1 was.probes now.probes → now.corrections ≡ was.corrections → now.lost ≡ was.lost
     → Took 0 0 more now then → all ≡ tries + more → Took (i + 1) (i + 1) all old then
-took_next i tries more all old was now then h probe corrections lost g sum = (
+took_next i tries more all {old} {was} {now} then h probe corrections lost g sum = (
   rose_then i i 1 1 (i + 1) (i + 1) old.probes was.probes then.probes h.0
       (rose_then 1 1 0 0 1 1 was.probes now.probes then.probes probe g.0 (omega arith)
       (omega arith)) (omega arith) (omega arith),
@@ -45,18 +46,18 @@ took_next i tries more all old was now then h probe corrections lost g sum = (
       (rw (← lost) g.2) (omega arith) sum,
 )
 
-pub took_within : (i tries least slots most : ℕ) (old new : Effort) → least ≤ i → i ≤ slots
+pub took_within : {i tries least slots most : ℕ} {old new : Effort} → least ≤ i → i ≤ slots
     → tries ≤ most → Took i i tries old new → Took least slots most old new
-took_within i tries least slots most old new some few short h = (
-  rose_within i i least slots old.probes new.probes some few h.0,
-  rose_within 0 tries 0 most old.corrections new.corrections (omega arith) short h.1,
-  rose_within 0 tries 0 most old.lost new.lost (omega arith) short h.2,
+took_within {i} {tries} {least} {slots} {most} {old} {new} some few short h = (
+  rose_within some few h.0,
+  rose_within (omega arith) short h.1,
+  rose_within (omega arith) short h.2,
 )
 
 -- one search of slots after another, neither of which counted its slots
-pub took_then : (tries more all : ℕ) (old was now : Effort) → Took 0 0 tries old was
+pub took_then : (tries more : ℕ) {all : ℕ} {old was now : Effort} → Took 0 0 tries old was
     → Took 0 0 more was now → all ≡ tries + more → Took 0 0 all old now
-took_then tries more all old was now h g sum = (
+took_then tries more {all} {old} {was} {now} h g sum = (
   rose_then 0 0 0 0 0 0 old.probes was.probes now.probes h.0 g.0 (omega arith) (omega arith),
   rose_then 0 tries 0 more 0 all old.corrections was.corrections now.corrections h.1 g.1
       (omega arith) sum,
@@ -64,37 +65,35 @@ took_then tries more all old was now h g sum = (
 )
 
 -- The slots that were visited are counted at the end.
-pub counted_probes : (visited tries : ℕ) (old was now : Effort) → Took 0 0 tries old was
+pub counted_probes : (visited tries : ℕ) {old was : Effort} (now : Effort) → Took 0 0 tries old was
     → Rose visited visited was.probes now.probes → Rose visited visited old.probes now.probes
-counted_probes visited tries old was now h probes =
+counted_probes visited tries {old} {was} now h probes =
     rose_then 0 0 visited visited visited visited old.probes was.probes now.probes h.0 probes
     (omega arith) (omega arith)
 
-pub took_probes : (visited tries slots : ℕ) (old was now : Effort) → Took 0 0 tries old was
+pub took_probes : (visited tries : ℕ) {slots : ℕ} {old was now : Effort} → Took 0 0 tries old was
     → Rose visited visited was.probes now.probes → now.corrections ≡ was.corrections
     → now.lost ≡ was.lost → 1 ≤ visited → visited ≤ slots → tries ≤ slots
     → Took 1 slots slots old now
-took_probes visited tries slots old was now h probes corrections lost some few short = (
-  rose_within visited visited 1 slots old.probes now.probes some few
-      (counted_probes visited tries old was now h probes),
-  rw corrections (rose_within 0 tries 0 slots old.corrections was.corrections (omega arith) short
-      h.1),
-  rw lost (rose_within 0 tries 0 slots old.lost was.lost (omega arith) short h.2),
+took_probes visited tries {slots} {old} {was} {now} h probes corrections lost some few short = (
+  rose_within some few (counted_probes visited tries now h probes),
+  rw corrections (rose_within (omega arith) short h.1),
+  rw lost (rose_within (omega arith) short h.2),
 )
 
 -- So it is where no exchange was tried.
-pub took_visited : (visited slots : ℕ) (old was now : Effort) → was ≡ old
+pub took_visited : (visited slots : ℕ) {old was now : Effort} → was ≡ old
     → Rose visited visited was.probes now.probes → now.corrections ≡ was.corrections
     → now.lost ≡ was.lost → 1 ≤ visited → visited ≤ slots
     → Took 1 slots 0 old now × Rose visited visited old.probes now.probes
-took_visited visited slots old was now same probes corrections lost some few =
-    let counted = counted_probes visited 0 old was now
-    (subst (Took 0 0 0 old) (sym same) (took_none old)) probes in
+took_visited visited slots {old} {was} {now} same probes corrections lost some few =
+    let counted = counted_probes visited 0 now (subst (Took 0 0 0 old) (sym same) (took_none old))
+    probes in
     let first : now.corrections ≡ old.corrections =
     corrections ∙ ap (λ (e : Effort). e.corrections) same in
     let second : now.lost ≡ old.lost = lost ∙ ap (λ (e : Effort). e.lost) same in (
       (
-        rose_within visited visited 1 slots old.probes now.probes some few counted,
+        rose_within some few counted,
         (omega arith, λ low. omega arith, omega arith),
         (omega arith, λ low. omega arith, omega arith),
       ),

@@ -38,15 +38,20 @@ pub no_more : (keys : List Key) → keys ≡ keys ++ []
 no_more [] = refl
 no_more (k ∷ ks) = ap (λ z. k ∷ z) (no_more ks)
 
+-- keys that were met, and more behind them
+pub met_then : (xs : List Key) {ys zs : List Key} → (more : List Key) × (ys ≡ xs ++ more)
+    → (more : List Key) × (zs ≡ ys ++ more) → (more : List Key) × (zs ≡ xs ++ more)
+met_then xs h g = (h.0 ++ g.0, g.1 ∙ (ap (λ z. z ++ g.0) h.1 ∙ append_assoc xs h.0 g.0))
+
 module _ {T : Type 0} where
   -- a step that leaves all but what was looked at, seen dead and held
-  pub searched_by : (v w : View T) (o : Option Stamp)
+  pub searched_by : {v w : View T} (o : Option Stamp)
       → w ≡ record v {
         work = record v.work { looked = w.work.looked; dead = joined v.work.dead o };
         records = w.records;
       }
       → Searched v w
-  searched_by v w o same = record {
+  searched_by {v} {w} o same = record {
     same = same ∙ rw (met, dead, glimpse) refl;
     dead = λ stamp h. rw dead (grows_joined v.work.dead o stamp h);
     met = ([], met ∙ no_more v.met);
@@ -82,11 +87,7 @@ module _ {T : Type 0} where
           glimpse = w.glimpse;
         }) a.same;
     dead = λ stamp h. b.dead stamp (a.dead stamp h);
-    met = (
-      a.met.0 ++ b.met.0,
-      b.met.1
-          ∙ (ap (λ z. z ++ b.met.0) a.met.1 ∙ append_assoc u.met a.met.0 b.met.0),
-    );
+    met = met_then u.met a.met b.met;
   }
 
   pub sought_then : (u v w : View T) → Sought u v → Sought v w → Sought u w

@@ -24,8 +24,8 @@ module _ {T A : Type 0} (table : RuleTable T A) where
     IsOwn c done = IsStepBy c done.event → kind done.event ≡ true
 
     -- nothing was done that is an event
-    pub goes_quiet : (a b : SeatOf T) → past b ≡ past a → view b ≡ view a → GoesOnBy table kind a b
-    goes_quiet a b same saw = record {
+    pub goes_quiet : {a b : SeatOf T} → past b ≡ past a → view b ≡ view a → GoesOnBy table kind a b
+    goes_quiet {a} same saw = record {
       more = [];
       goes_on = same ∙ sym (append-nil (past a));
       own = λ c named. tt;
@@ -35,7 +35,7 @@ module _ {T A : Type 0} (table : RuleTable T A) where
 
     -- nothing was done
     pub goes_none : (a b : SeatOf T) → b ≡ a → GoesOnBy table kind a b
-    goes_none a b same = goes_quiet a b (ap past same) (ap view same)
+    goes_none a b same = goes_quiet (ap past same) (ap view same)
 
     pub goes_then : (a b c : SeatOf T) → GoesOnBy table kind a b → GoesOnBy table kind b c
         → GoesOnBy table kind a c
@@ -114,20 +114,20 @@ module _ {T A : Type 0} (table : RuleTable T A) where
   }
 
   -- four of them
-  pub seeks_four : (a b c d e : SeatOf T) → Seeks table a b → Seeks table b c → Seeks table c d
+  pub seeks_four : {a b c d e : SeatOf T} → Seeks table a b → Seeks table b c → Seeks table c d
       → Seeks table d e → Seeks table a e
-  seeks_four a b c d e first second third fourth =
+  seeks_four {a} {b} {c} {d} {e} first second third fourth =
       seeks_then a c e (seeks_then a b c first second) (seeks_then c d e third fourth)
 
   -- a read of the entry that the record of a name is on
-  pub seeks_read : (name : ℕ) (P : Record → Type 0) (a b : SeatOf T)
+  pub seeks_read : (name : ℕ) (P : Record → Type 0) {a b : SeatOf T}
       → IsSomeAnd (record_in name (view a).records) P
       → IfSome (record_in name (view a).records)
       (λ r. IsEvent table (read_done name r.entry (view a)) a b)
       → Seeks table a b
-  seeks_read name P a b = by (record_in name (view a).records)
+  seeks_read name P {a} {b} = by (record_in name (view a).records)
     where
       by : (o : Option Record) → IsSomeAnd o P
           → IfSome o (λ r. IsEvent table (read_done name r.entry (view a)) a b) → Seeks table a b
       by None holds event = absurd holds
-      by (Some r) holds event = seeks_one (read_done name r.entry (view a)) a b event refl
+      by (Some r) holds event = seeks_one _ a b event refl

@@ -77,8 +77,8 @@ bound (Err e) f z h = cc
 pub same_outcome : (x y : Reply × State) → ◌≡◌ {A = Outcome} (Ok x) (Ok y) → x ≡ y
 same_outcome x y h = cc
 
-pub same_phase : (p q : Phase) → replies.Saw p ≡ replies.Saw q → p ≡ q
-same_phase p q h = cc
+pub same_phase : {p q : Phase} → replies.Saw p ≡ replies.Saw q → p ≡ q
+same_phase h = cc
 
 pub same_count : (m n : ℕ) → replies.Count m ≡ replies.Count n → m ≡ n
 same_count m n h = cc
@@ -94,9 +94,9 @@ ruled w event z h = by (in_range event) h
     by false is = cc
 
 -- An event of a search that was allowed leaves what each slot shows.
-leads_stays : (w w' : State) (event : Event) (reply : Reply) → is_seeking event ≡ true
+leads_stays : (w : State) {w' : State} (event : Event) {reply : Reply} → is_seeking event ≡ true
     → outcome_of w event ≡ Ok (reply, w') → (s : ℕ) → shown_at w' s ≡ shown_at w s
-leads_stays w w' event reply seeking is s =
+leads_stays w event seeking is s =
     ap (λ o. shown_at (world_after w o) s) (sym is) ∙ event_stays w event seeking s
 
 module _ (w w' : State) (client slot : ℕ) where
@@ -127,9 +127,8 @@ module _ (w w' : State) (client slot : ℕ) where
   look_tells word is off =
       let first = bound (slot_at w slot) _ _ (ruled w (events.Look client slot) _ is) in
       let second = bound (live_at w client) _ _ first.2 in
-      let reply = same_phase (phase_of first.0) (phase_in word)
-      (ap (λ z. z.0) (same_outcome _ _ second.2)) in
-      leads_stays w w' (events.Look client slot) _ refl is slot
+      let reply = same_phase (ap (λ z. z.0) (same_outcome _ _ second.2)) in
+      leads_stays w (events.Look client slot) refl is slot
       ∙ ap (option_and_then entry_shown) (found_ok _ _ first.0 first.1)
       ∙ unshown_phase word first.0 (sym reply) off
 
@@ -150,15 +149,15 @@ module _ (w w' : State) (client slot : ℕ) where
         ap (λ z. z.0) (same_outcome _ _ third.2) in
         (first.0, found_ok _ _ first.0 first.1, reply)
 
-    got_shown : (a b c d counting : Bool)
+    got_shown : (a : Bool) {b c : Bool} (d : Bool) {counting : Bool}
         → replies.Got b counting ≡ (if a then replies.Got c d else replies.Stray) → b ≡ c
-    got_shown true b c d counting same = cc
-    got_shown false b c d counting same = cc
+    got_shown true d same = cc
+    got_shown false d same = cc
 
     -- An acquire that found the slot not visible: nothing is shown there.
     pub acquire_hides : is_visible word ≡ false → shown_at w' slot ≡ None
     acquire_hides off =
-        leads_stays w w' (events.Acquire client slot weight name) _ refl is slot
+        leads_stays w (events.Acquire client slot weight name) refl is slot
         ∙ ap (option_and_then entry_shown) found_there.1
         ∙ by found_there.0 found_there.2
       where
@@ -167,7 +166,7 @@ module _ (w w' : State) (client slot : ℕ) where
         by (slots.Empty strays) same = refl
         by (slots.Building other strays) same = refl
         by (slots.Shareable r) same =
-            let shown = got_shown _ _ _ _ _ same in
+            let shown = got_shown _ _ same in
             ap (λ b. if b then Some r.entry else None) (shown ∙ off)
 
     -- An acquire that found the slot visible: an entry is shown there.
@@ -176,7 +175,7 @@ module _ (w w' : State) (client slot : ℕ) where
     acquire_shows on =
         let there = by found_there.0 found_there.2 in (
           there.0,
-          leads_stays w w' (events.Acquire client slot weight name) _ refl is slot
+          leads_stays w (events.Acquire client slot weight name) refl is slot
               ∙ ap (option_and_then entry_shown) found_there.1
               ∙ there.1,
         )
@@ -191,7 +190,7 @@ module _ (w w' : State) (client slot : ℕ) where
         by (slots.Empty strays) same = absurd (stray _ _ _ (visible_has word on) same)
         by (slots.Building other strays) same = absurd (stray _ _ _ (visible_has word on) same)
         by (slots.Shareable r) same =
-            let shown = got_shown _ _ _ _ _ same in
+            let shown = got_shown _ _ same in
             (r.entry, ap (λ b. if b then Some r.entry else None) (shown ∙ on))
 
   -- A peek that found an entry shown: it is shown there.
@@ -206,7 +205,7 @@ module _ (w w' : State) (client slot : ℕ) where
       (ap (λ z. z.0) (same_outcome _ _ second.2)) in
       let there = by first.0 reply in (
         there.0,
-        leads_stays w w' (events.Peek client slot) _ refl is slot
+        leads_stays w (events.Peek client slot) refl is slot
             ∙ ap (option_and_then entry_shown) (found_ok _ _ first.0 first.1)
             ∙ there.1,
         there.2,

@@ -40,7 +40,7 @@ pub record Leaves {A : Type 0} (f : Option Slot → A) : Type 0 where
   pub by_face : (o p : Option Slot) → option_and_then face_of o ≡ option_and_then face_of p
       → f o ≡ f p
 
-module _ {A : Type 0} (f : Option Slot → A) (l : Leaves f) where
+module _ {A : Type 0} {f : Option Slot → A} (l : Leaves f) where
   -- Such events leave the reading of each slot as it is.
   still_stays : (ds : List Done) → Each (λ (done : Done). is_still done.event ≡ true) ds
       → (w : State) (s : ℕ)
@@ -52,10 +52,10 @@ module _ {A : Type 0} (f : Option Slot → A) (l : Leaves f) where
       let bad : None ≡ Some s = sym (still_unchanged w d.event only.0) ∙ is in cc))
 
   -- So do calls in a shard of one client that make no other events.
-  pub still_alone : {T B : Type 0} (table : RuleTable T B) → clients_of table ≡ 1
+  pub still_alone : {T B : Type 0} {table : RuleTable T B} → clients_of table ≡ 1
       → (a b : SeatOf T) → GoesOnStill table a b → (s : ℕ)
       → f (slice_get (world_at table b).slots s) ≡ f (slice_get (world_at table a).slots s)
-  still_alone table one a b h s =
+  still_alone {T} {B} {table} one a b h s =
       ap (λ ds. f (slice_get (world_of (plan_of table) ds).slots s)) h.goes_on
       ∙ ap (λ (w : State). f (slice_get w.slots s))
       (after_more (past a) h.more (begun_world (plan_of table)))
@@ -100,14 +100,14 @@ seeking_still (events.Correct client name) is = refl
 seeking_still other is = cc
 
 module _ {T A : Type 0} (table : RuleTable T A) where
-  does_still : (ds : List Done) (a b : SeatOf T) → Does table ds a b
+  does_still : (ds : List Done) {a b : SeatOf T} → Does table ds a b
       → Each (λ (done : Done). is_seeking done.event ≡ true) ds → GoesOnStill table a b
-  does_still [] a b same only =
+  does_still [] {a} same only =
       subst (λ z. GoesOnStill table a z) (sym same) (goes_none table is_still a a refl)
-  does_still (d ∷ ds) a b does only =
+  does_still (d ∷ ds) {a} {b} does only =
       goes_then table is_still a does.0 b
       (goes_event table is_still d a does.0 does.1 (seeking_still d.event only.0))
-      (does_still ds does.0 b does.2 only.1)
+      (does_still ds does.2 only.1)
 
   -- References were acquired.
   pub reaches_seek : (slot weight name word : ℕ) (a b : SeatOf T)
@@ -117,23 +117,24 @@ module _ {T A : Type 0} (table : RuleTable T A) where
       (reached_seeks table slot weight name word a b h)
 
   pub seeks_still : (a b : SeatOf T) → Seeks table a b → GoesOnStill table a b
-  seeks_still a b h = does_still h.own a b h.does h.only
+  seeks_still a b h = does_still h.own h.does h.only
 
   -- A look, and then an acquire there; and a read, and then a give.
-  pub looks_reach : (slot weight name seen word : ℕ) (a b c : SeatOf T)
+  pub looks_reach : {slot weight name : ℕ} (seen : ℕ) {word : ℕ} {a b c : SeatOf T}
       → IsEvent table (look_done slot seen (view a)) a b
       → ReachesBy table slot weight name word b c → Seeks table a c
-  looks_reach slot weight name seen word a b c event h =
-      seeks_then table a b c (seeks_one table (look_done slot seen (view a)) a b event refl)
+  looks_reach {slot} {weight} {name} seen {word} {a} {b} {c} event h =
+      seeks_then table a b c (seeks_one table _ a b event refl)
       (reaches_seek slot weight name word b c h)
 
-  pub reads_give : (slot weight name word : ℕ) (a b c : SeatOf T) → HasOn slot name (view a)
+  pub reads_give : (slot weight : ℕ) {name : ℕ} (word : ℕ) {a : SeatOf T} (b : SeatOf T) {c : SeatOf
+      T} → HasOn slot name (view a)
       → IfSome (record_in name (view a).records)
       (λ r. IsEvent table (read_done name r.entry (view a)) a b)
       → IsEvent table (give_done weight name word (view b)) b c → Seeks table a c
-  reads_give slot weight name word a b c on reads gives =
-      seeks_then table a b c (seeks_read table name (λ r. r.slot ≡ slot) a b on reads)
-      (seeks_one table (give_done weight name word (view b)) b c gives refl)
+  reads_give slot weight {name} word {a} b {c} on reads gives =
+      seeks_then table a b c (seeks_read table name (λ r. r.slot ≡ slot) on reads)
+      (seeks_one table _ b c gives refl)
 
   -- What settles books, and what books makes and takes no entry.
   pub settled_books : (a b : SeatOf T) → GoesOnBy table is_settling a b

@@ -29,7 +29,7 @@ abbrev pub trail_from : (slots : ℕ) → Key → (slot i : ℕ) → List ℕ
 trail_from slots key slot i =
     before slot (map (probe_slot slots key) (range_with_len i (slots - i)))
 
-module _ (slots : ℕ) (key : Key) (slot i : ℕ) where
+module _ {slots : ℕ} (key : Key) (slot : ℕ) {i : ℕ} where
   -- The first of them is this probe, where it isn't the slot.
   pub trail_first : i < slots → probe_slot slots key i ≢ slot
       → trail_from slots key slot i ≡ probe_slot slots key i ∷ trail_from slots key slot (i + 1)
@@ -58,9 +58,9 @@ module _ (slots : ℕ) (key : Key) (slot i : ℕ) where
       ap (λ n. before slot (map (probe_slot slots key) (range_with_len i n))) none
 
 -- A trail is shorter than there are slots.
-pub trail_short : (slots : ℕ) (key : Key) (slot : ℕ) → MOST_SLOTS % slots ≡ 0 → slot < slots
+pub trail_short : {slots : ℕ} (key : Key) {slot : ℕ} → MOST_SLOTS % slots ≡ 0 → slot < slots
     → length (trail_to slots key slot) < slots
-trail_short slots key slot power near =
+trail_short {slots} key {slot} power near =
     let at = probe_of_slot slots key power slot near in
     subst (λ s. length (trail_to slots key s) < slots) at.2
     (let long = trail_length slots key power at.0 at.1 in let inside = at.1 in omega arith)
@@ -76,12 +76,12 @@ module _ {T : Type 0} where
           record (view seat).work { trail = trail_from slots key slot i };
     }
 
-  pub takes_back : (slots : ℕ) (key : Key) (slot : ℕ) (walk : Walk) (seat : SeatOf T)
+  pub takes_back : {slots : ℕ} {key : Key} {slot : ℕ} {walk : Walk} {seat : SeatOf T}
       → MOST_SLOTS % slots ≡ 0
       → (view seat).work.trail ≡ trail_to slots key slot → walk.probe ≡ key.w1
       → walk.stride ≡ bit_or key.w0 1 → walk.mask ≡ slots - 1
       → IsTakingBack slots key slot 0 walk seat seat
-  takes_back slots key slot walk seat power trail probe stride mask = record {
+  takes_back {slots} {key} {slot} {walk} {seat} power trail probe stride mask = record {
     same = record { table = refl; number = refl; slots = refl };
     walking = record {
       probe = rw (probe, mask) (first_masked slots key power);
@@ -97,7 +97,7 @@ module _ {T : Type 0} where
           let all : slots - 0 ≡ slots = omega arith in
           ap (λ n. before slot (map (probe_slot slots key) (range_with_len 0 n))) all
 
-  module _ (slots : ℕ) (key : Key) (slot i there : ℕ) (walk : Walk) (seat now : SeatOf T)
+  module _ {slots : ℕ} {key : Key} {slot i there : ℕ} {walk : Walk} {seat now : SeatOf T}
       (s : IsTakingBack slots key slot i walk seat now) (is : there ≡ bit_and walk.probe walk.mask)
       (low : i < slots) where
     probe_is : there ≡ probe_slot slots key i
@@ -111,12 +111,12 @@ module _ {T : Type 0} where
         → view now ≡ record (view seat) { work = record (view seat).work { trail = [] } }
     back same = s.left ∙ ap (λ t.
         record (view seat) { work = record (view seat).work { trail = t } })
-        (trail_over slots key slot i low (sym probe_is ∙ same))
+        (trail_over key slot low (sym probe_is ∙ same))
 
     module _ (other : there ≢ slot) where
       first_is : (view now).work.trail ≡ there ∷ trail_from slots key slot (i + 1)
       first_is =
-          trail_is ∙ (trail_first slots key slot i low (λ e. other (probe_is ∙ e))
+          trail_is ∙ (trail_first key slot low (λ e. other (probe_is ∙ e))
           ∙ ap (λ p. p ∷ trail_from slots key slot (i + 1)) (sym probe_is))
 
       -- else the slot stands in it
@@ -126,12 +126,12 @@ module _ {T : Type 0} where
           (eq-eqb there there refl)
 
       -- and goes
-      pub goes_back : (new : SeatOf T) (next : Walk) → MOST_SLOTS % slots ≡ 0 → IsSameSeat now new
+      pub goes_back : {new : SeatOf T} {next : Walk} → MOST_SLOTS % slots ≡ 0 → IsSameSeat now new
           → view new ≡ after_unpass there (view now)
           → next.probe ≡ (walk.probe + walk.stride) % 2 ^ 64
           → next.stride ≡ walk.stride → next.mask ≡ walk.mask
           → IsTakingBack slots key slot (i + 1) next seat new
-      goes_back new next power same told probe stride mask = record {
+      goes_back {new} power same told probe stride mask = record {
         same = seat_then seat now new s.same same;
         walking = record {
           probe =
@@ -155,30 +155,30 @@ module _ {T : Type 0} where
               (eq-eqb there there refl)
 
       -- One less is left.
-      pub shorter : (new : SeatOf T) (next : Walk)
+      pub shorter : {new : SeatOf T} {next : Walk}
           → IsTakingBack slots key slot (i + 1) next seat new
           → length (view now).work.trail ≡ length (view new).work.trail + 1
-      shorter new next back =
+      shorter back =
           let was = ap length first_is in
           let is = ap (λ (z : View T). length z.work.trail) back.left in
           omega arith
 
   -- All is taken back after all probes.
-  pub back_at_end : (slots : ℕ) (key : Key) (slot i : ℕ) (walk : Walk) (seat now : SeatOf T)
+  pub back_at_end : {slots : ℕ} {key : Key} {slot i : ℕ} {walk : Walk} {seat now : SeatOf T}
       → slots ≤ i
       → IsTakingBack slots key slot i walk seat now
       → view now ≡ record (view seat) { work = record (view seat).work { trail = [] } }
-  back_at_end slots key slot i walk seat now past s =
+  back_at_end {slots} {key} {slot} {i} {walk} {seat} past s =
       s.left ∙ ap (λ t. record (view seat) { work = record (view seat).work { trail = t } })
-      (trail_end slots key slot i past)
+      (trail_end key slot past)
 
   -- A taken entry's slot was emptied.
-  pub taken_at : (fits : T → Key → List ℕ → Type 0) (slots room slot old word charge : ℕ)
-      (name : Option ℕ) (u v w : View T)
+  pub taken_at : {fits : T → Key → List ℕ → Type 0} {slots room slot old word charge : ℕ}
+      {name : Option ℕ} {u v w : View T}
       → (old == word) ≡ true → Freed fits slots room slot word old name u v
       → charge ≡ slice_index v.written CHARGE → w ≡ emptied v
       → TakenAt fits slots room slot word name charge u w
-  taken_at fits slots room slot old word charge name u v w won told charged same =
+  taken_at {fits} {slots} {room} {slot} {old} {word} {charge} {name} {u} won told charged same =
       let got = told.won won in
       let is : old ≡ word = eqb-true old word won in
       record {
@@ -209,13 +209,13 @@ module _ {T : Type 0} where
   )
 
 -- The one try to take an entry, as an event.
-module _ {T A : Type 0} (table : RuleTable T A) (slot word : ℕ) (name : Option ℕ)
-    (a b : SeatOf T) where
+module _ {T A : Type 0} {table : RuleTable T A} {slot word : ℕ} {name : Option ℕ}
+    {a b : SeatOf T} where
   -- It lost: a look that found another word.
-  pub lost_by : (found charge : ℕ) → found ≢ word
+  pub lost_by : {found : ℕ} (charge : ℕ) → found ≢ word
       → IsEvent table (free_done slot name word found charge (view a)) a b
       → TakesBy table slot word name None a b
-  lost_by found charge other event = record {
+  lost_by {found} charge other event = record {
     lost = (found, other, subst (λ done. IsEvent table done a b) same event);
     won = tt;
   }
@@ -225,13 +225,13 @@ module _ {T A : Type 0} (table : RuleTable T A) (slot word : ℕ) (name : Option
           else look_done slot found (view a)) (ne_eqb found word other)
 
   -- It won: the entry was taken, with its charge.
-  pub taken_by : (fits : T → Key → List ℕ → Type 0) (slots room found charge : ℕ) (c : SeatOf T)
+  pub taken_by : {fits : T → Key → List ℕ → Type 0} {slots room found charge : ℕ} {c : SeatOf T}
       → found ≡ word → Freed fits slots room slot word found name (view a) (view b)
       → charge ≡ slice_index (view b).written CHARGE
       → IsEvent table (free_done slot name word found
       ((view b).work.freed - (view a).work.freed) (view a)) a b
       → Empties table (view b).client b c → TakesBy table slot word name (Some charge) a c
-  taken_by fits slots room found charge c is told charged event more = record {
+  taken_by {found = found} {charge = charge} {c = c} is told charged event more = record {
     lost = tt;
     won = (
       b,

@@ -9,18 +9,18 @@ use Rattle.hcc_rule.specs.Records.{record_in}
 use Rattle.hcc_table.specs.Readings.{put_in, put_turn, IsReadable}
 
 -- Before the value's bytes a buffer has its own.
-own_before : (at count : ℕ) (value old : List ℕ) (k : ℕ) → at ≤ length old → k < at
+own_before : {at : ℕ} (count : ℕ) (value old : List ℕ) {k : ℕ} → at ≤ length old → k < at
     → get_or (put_in at count value old) k 0 ≡ get_or old k 0
-own_before at count value old k room low =
+own_before {at} count value old {k} room low =
     get_or_append_left (take at old) (take count (drop at value) ++ drop (at + count) old) 0 k
     (omega (arith, length-take-le at old room))
     ∙ get_or-take at old k 0 low
 
 -- There it has the value's.
-value_there : (at count : ℕ) (value old : List ℕ) (k : ℕ) → at ≤ length old
+value_there : {at : ℕ} (count : ℕ) (value old : List ℕ) {k : ℕ} → at ≤ length old
     → at + count ≤ length value → at ≤ k → k < at + count
     → get_or (put_in at count value old) k 0 ≡ get_or value k 0
-value_there at count value old k room within past low =
+value_there {at} count value old {k} room within past low =
     get_or-append_right (take at old) (cut ++ drop (at + count) old) at k 0
     (length-take-le at old room) past
     ∙ (get_or_append_left cut (drop (at + count) old) 0 (k - at) (omega (arith, long))
@@ -37,10 +37,10 @@ value_there at count value old k room within past low =
     whole = omega arith
 
 -- Behind these it has its own.
-own_behind : (at count : ℕ) (value old : List ℕ) (k : ℕ) → at ≤ length old
+own_behind : {at : ℕ} (count : ℕ) (value old : List ℕ) {k : ℕ} → at ≤ length old
     → at + count ≤ length value → at + count ≤ k
     → get_or (put_in at count value old) k 0 ≡ get_or old k 0
-own_behind at count value old k room within past =
+own_behind {at} count value old {k} room within past =
     get_or-append_right (take at old) (cut ++ drop (at + count) old) at k 0
     (length-take-le at old room) (omega arith)
     ∙ (get_or-append_right cut (drop (at + count) old) count (k - at) 0 long (omega arith)
@@ -86,8 +86,8 @@ pub record IsTurned (from words : ℕ) (value old new : List ℕ) : Type 0 where
   pub behind : (k : ℕ) → 8 * from + 256 ≤ k → get_or new k 0 ≡ get_or old k 0
 
 -- Before the first the buffer is as it was.
-no_word : (from : ℕ) (value old : List ℕ) → IsTurned from 0 value old old
-no_word from value old = record {
+no_word : {from : ℕ} {value old : List ℕ} → IsTurned from 0 value old old
+no_word = record {
   long = refl;
   before = λ k low. refl;
   done = λ j low turn. absurd (omega arith);
@@ -102,21 +102,22 @@ turned from (suc zero) value old = put_turn from value old
 turned from (suc (suc part)) value old =
     put_turn (from + suc part) value (turned from (suc part) value old)
 
-module _ (from : ℕ) (value old : List ℕ) (within : 8 * from + 256 ≤ length value)
+module _ {from : ℕ} {value old : List ℕ} (within : 8 * from + 256 ≤ length value)
     (room : 8 * from + 256 ≤ length old) where
   -- The next word is that of a part of a line.
-  next_word : (part line words more at : ℕ) (buffer : List ℕ) → part < 8 → line < 4
+  next_word : {part : ℕ} (line : ℕ) {words more : ℕ} (at : ℕ) {buffer : List ℕ} → part < 8
+      → line < 4
       → words ≡ 4 * part + line → more ≡ words + 1 → at ≡ from + 8 * line + part
       → IsTurned from words value old buffer
       → IsTurned from more value old (put_in (8 * at) 8 value buffer)
-  next_word part line words more at buffer few lines so_far one place t = record {
+  next_word line {more = more} at {buffer} few lines so_far one place t = record {
     long = put_length (8 * at) 8 value buffer (omega (arith, t.long)) (omega arith) ∙ t.long;
     before = λ k low.
-        own_before (8 * at) 8 value buffer k begun (omega arith) ∙ t.before k low;
+        own_before 8 value buffer begun (omega arith) ∙ t.before k low;
     done = done;
     left = left;
     behind = λ k past.
-        own_behind (8 * at) 8 value buffer k begun inside (omega arith) ∙ t.behind k past;
+        own_behind 8 value buffer begun inside (omega arith) ∙ t.behind k past;
   }
     where
       begun : 8 * at ≤ length buffer
@@ -130,14 +131,14 @@ module _ (from : ℕ) (value old : List ℕ) (within : 8 * from + 256 ≤ length
           ≡ get_or value (8 * from + j) 0
       done j low turn = elim (cases_lt (8 * from + j) (8 * at)) [
         | inl earlier ↦
-            own_before (8 * at) 8 value buffer (8 * from + j) begun earlier
+            own_before 8 value buffer begun earlier
             ∙ t.done j low (omega arith)
         | inr past ↦
             elim (cases_lt (8 * from + j) (8 * at + 8)) [
               | inl here ↦
-                  value_there (8 * at) 8 value buffer (8 * from + j) begun inside past here
+                  value_there 8 value buffer begun inside past here
               | inr later ↦
-                  own_behind (8 * at) 8 value buffer (8 * from + j) begun inside later
+                  own_behind 8 value buffer begun inside later
                   ∙ t.done j low (omega arith)
             ]
       ]
@@ -147,20 +148,19 @@ module _ (from : ℕ) (value old : List ℕ) (within : 8 * from + 256 ≤ length
           ≡ get_or old (8 * from + j) 0
       left j low turn = elim (cases_lt (8 * from + j) (8 * at)) [
         | inl earlier ↦
-            own_before (8 * at) 8 value buffer (8 * from + j) begun earlier
+            own_before 8 value buffer begun earlier
             ∙ t.left j low (omega arith)
         | inr past ↦
-            own_behind (8 * at) 8 value buffer (8 * from + j) begun inside (omega arith)
+            own_behind 8 value buffer begun inside (omega arith)
             ∙ t.left j low (omega arith)
       ]
 
   -- A turn copies a word of each line.
-  whole_turn : (part at : ℕ) (buffer : List ℕ) → part < 8 → at ≡ from + part
+  whole_turn : (part at : ℕ) {buffer : List ℕ} → part < 8 → at ≡ from + part
       → IsTurned from (4 * part) value old buffer
       → IsTurned from (4 * suc part) value old (put_turn at value buffer)
-  whole_turn part at buffer few place t =
-      next_word part 3 (4 * part + 3) (4 * suc part) (at + 24) third few (omega arith) refl
-      (omega arith) (omega arith) three
+  whole_turn part at {buffer} few place t =
+      next_word 3 (at + 24) few (omega arith) refl (omega arith) (omega arith) three
     where
       first : List ℕ
       first = put_in (8 * at) 8 value buffer
@@ -172,34 +172,27 @@ module _ (from : ℕ) (value old : List ℕ) (within : 8 * from + 256 ≤ length
       third = put_in (8 * (at + 16)) 8 value second
 
       one : IsTurned from (4 * part + 1) value old first
-      one =
-          next_word part 0 (4 * part) (4 * part + 1) at buffer few (omega arith) (omega arith)
-          refl (omega arith) t
+      one = next_word 0 at few (omega arith) (omega arith) refl (omega arith) t
 
       two : IsTurned from (4 * part + 2) value old second
-      two =
-          next_word part 1 (4 * part + 1) (4 * part + 2) (at + 8) first few (omega arith) refl
-          (omega arith) (omega arith) one
+      two = next_word 1 (at + 8) few (omega arith) refl (omega arith) (omega arith) one
 
       three : IsTurned from (4 * part + 3) value old third
-      three =
-          next_word part 2 (4 * part + 2) (4 * part + 3) (at + 16) second few (omega arith) refl
-          (omega arith) (omega arith) two
+      three = next_word 2 (at + 16) few (omega arith) refl (omega arith) (omega arith) two
 
   -- So turn by turn.
   turns_done : (parts : ℕ) → parts ≤ 8
       → IsTurned from (4 * parts) value old (turned from parts value old)
-  turns_done zero few = no_word from value old
-  turns_done (suc zero) few =
-      whole_turn 0 from old (omega arith) (omega arith) (no_word from value old)
+  turns_done zero few = no_word
+  turns_done (suc zero) few = whole_turn 0 from (omega arith) (omega arith) (no_word)
   turns_done (suc (suc part)) few =
-      whole_turn (suc part) (from + suc part) (turned from (suc part) value old) (omega arith) refl
+      whole_turn (suc part) (from + suc part) (omega arith) refl
       (turns_done (suc part) (omega arith))
 
   -- After the last turn the 32 words of the value are there.
-  last_turn : (words : ℕ) (new : List ℕ) → 32 ≤ words → IsTurned from words value old new
+  last_turn : {words : ℕ} {new : List ℕ} → 32 ≤ words → IsTurned from words value old new
       → new ≡ put_in (8 * from) 256 value old
-  last_turn words new all t =
+  last_turn {new = new} all t =
       same_number_lists new (put_in (8 * from) 256 value old)
       (t.long ∙ sym (put_length (8 * from) 256 value old room within)) (λ k low. each k)
     where
@@ -209,7 +202,7 @@ module _ (from : ℕ) (value old : List ℕ) (within : 8 * from + 256 ≤ length
       each : (k : ℕ) → get_or new k 0 ≡ get_or (put_in (8 * from) 256 value old) k 0
       each k = elim (cases_lt k (8 * from)) [
         | inl earlier ↦
-            t.before k earlier ∙ sym (own_before (8 * from) 256 value old k begun earlier)
+            t.before k earlier ∙ sym (own_before 256 value old begun earlier)
         | inr past ↦
             elim (cases_lt k (8 * from + 256)) [
               | inl here ↦
@@ -217,10 +210,10 @@ module _ (from : ℕ) (value old : List ℕ) (within : 8 * from + 256 ≤ length
                   ap (λ i. get_or new i 0) at
                   ∙ (t.done (k - 8 * from) (omega arith) (omega arith)
                   ∙ (ap (λ i. get_or value i 0) (sym at)
-                  ∙ sym (value_there (8 * from) 256 value old k begun within past here)))
+                  ∙ sym (value_there 256 value old begun within past here)))
               | inr later ↦
                   t.behind k later
-                  ∙ sym (own_behind (8 * from) 256 value old k begun within later)
+                  ∙ sym (own_behind 256 value old begun within later)
             ]
       ]
 
@@ -233,8 +226,7 @@ pub some_last : (o : Option Record) (slot room first from : ℕ) (old new : List
     → IfSome o (λ r. new ≡ put_in (8 * from) 256 (drop (8 * first) r.entry.value) old)
 some_last None slot room first from old new space holds put = tt
 some_last (Some r) slot room first from old new space holds put =
-    put ∙ last_turn from ahead old within space (4 * 8) (turned from 8 ahead old) (omega arith)
-    (turns_done from ahead old within space 8 (omega arith))
+    put ∙ last_turn within space (omega arith) (turns_done within space 8 (omega arith))
   where
     ahead : List ℕ
     ahead = drop (8 * first) r.entry.value
@@ -258,10 +250,10 @@ module _ {T : Type 0} where
     pub put : IfSome (record_in name u.records) (λ r. buffer ≡ f r.entry.value)
 
   -- the first
-  pub puts_first : {name : ℕ} {u v : View T} {buffer : List ℕ} (f : List ℕ → List ℕ) → v ≡ u
+  pub puts_first : {name : ℕ} {u v : View T} {buffer : List ℕ} {f : List ℕ → List ℕ} → v ≡ u
       → IfSome (record_in name u.records) (λ r. buffer ≡ f r.entry.value)
       → HasPut name f u v buffer
-  puts_first f kept put = record { kept = kept; put = put }
+  puts_first kept put = record { kept = kept; put = put }
 
   -- and the next
   pub puts_next : {name : ℕ} {f : List ℕ → List ℕ} {u v w : View T} {buffer new : List ℕ}

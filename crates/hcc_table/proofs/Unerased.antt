@@ -26,7 +26,7 @@ use Rattle.hcc_rule.specs.declared.table.RuleTable.{RuleTable}
 use Rattle.hcc_rule.specs.declared.view.Record.{Record}
 use Rattle.hcc_rule.specs.Acts.{events_of, past}
 use Rattle.hcc_rule.specs.Callers.{IsEvent, clients_of, plan_of, world_at}
-use Rattle.hcc_rule.specs.Events.{give_done, phase_in, spend_done}
+use Rattle.hcc_rule.specs.Events.{phase_in}
 use Rattle.hcc_rule.specs.Records.{record_in}
 use Rattle.hcc_rule.specs.Seats.{SeatOf, view}
 use Rattle.hcc_rule.proofs.Seats.Runs.{run_finds}
@@ -100,28 +100,28 @@ left_kept false found seen some =
     due_not (left_of false 1 found) (inl (given_state found (seen_state found seen) some))
 
 -- a slot that shows an entry is Shown
-shown_phase : (seen : Slot) (entry : Entry) → entry_shown seen ≡ Some entry
+shown_phase : (seen : Slot) {entry : Entry} → entry_shown seen ≡ Some entry
     → phase_of seen ≡ phases.Shown
-shown_phase (slots.Empty strays) entry is = cc
-shown_phase (slots.Building other strays) entry is = cc
-shown_phase (slots.Shareable r) entry is = by r.shown is
+shown_phase (slots.Empty strays) is = cc
+shown_phase (slots.Building other strays) is = cc
+shown_phase (slots.Shareable r) {entry} is = by r.shown is
   where
     by : (b : Bool) → (if b then Some r.entry else None) ≡ Some entry
         → phase_if b ≡ phases.Shown
     by true is = refl
     by false is = cc
 
-same_left : (m n : ℕ) (p q : Phase) → replies.Left m p ≡ replies.Left n q → p ≡ q
-same_left m n p q h = cc
+same_left : {m n : ℕ} {p q : Phase} → replies.Left m p ≡ replies.Left n q → p ≡ q
+same_left h = cc
 
 -- what is told where the slot that is left shows an entry
-left_told : {entry : Entry} {left : ℕ} {phase : Phase} {next : State} (seen : Slot) (v : State)
+left_told : {entry : Entry} {left : ℕ} {phase : Phase} {next : State} (seen : Slot) {v : State}
     → entry_shown seen ≡ Some entry
     → ◌≡◌ {A = Outcome} (Ok (left_on seen, v)) (Ok (replies.Left left phase, next))
     → phase ≡ phases.Shown
-left_told {entry = entry} {left = left} {phase = phase} seen v shows is =
-    sym (same_left _ left _ phase (ap (λ z. z.0) (same_outcome _ _ is)))
-    ∙ shown_phase seen entry shows
+left_told {entry = entry} {left = left} {phase = phase} seen shows is =
+    sym (same_left (ap (λ z. z.0) (same_outcome _ _ is)))
+    ∙ shown_phase seen shows
 
 module _ {w : State} {held entry : Entry} (client name slot : ℕ) (one : FindsOne w)
     (stands : held_at w client name slot ≡ Some held) (shown : shown_at w slot ≡ Some entry) where
@@ -153,7 +153,7 @@ module _ {w : State} {held entry : Entry} (client name slot : ℕ) (one : FindsO
   unfolding give_of
   give_shown is =
       let at = on_slot (ruled w (events.Give client name) _ is) in
-      left_told (slot_given client name at.2) _ (given_shows client name at.2 ∙ at.3) at.4
+      left_told (slot_given client name at.2) (given_shows client name at.2 ∙ at.3) at.4
 
   -- and what a use does.
   use_shown : {left : ℕ} {phase : Phase} {next : State}
@@ -163,15 +163,15 @@ module _ {w : State} {held entry : Entry} (client name slot : ℕ) (one : FindsO
   use_shown is =
       let at = on_slot (ruled w (events.Use client name) _ is) in
       let more = bound (ok_or (counting_in client name (references_of at.2)) NotAllowed) _ _ at.4 in
-      left_told (slot_used client name more.0 at.2) _
-      (used_shows client name more.0 at.2 ∙ at.3) more.2
+      left_told (slot_used client name more.0 at.2) (used_shows client name more.0 at.2 ∙ at.3)
+      more.2
 
 module _ {T A : Type 0} (table : RuleTable T A) (one : clients_of table ≡ 1) where
   -- A reference on an entry that is shown was given back: nobody who doesn't ask to erase takes it.
-  left_shown : (slot name left : ℕ) (used : Bool) (entry : Entry) (a b : SeatOf T)
+  left_shown : (slot name : ℕ) {left : ℕ} (used : Bool) {entry : Entry} (a b : SeatOf T)
       → IsLeftBy table slot 1 name used left a b → shown_at (world_at table a) slot ≡ Some entry
       → is_due false left ≡ false
-  left_shown slot name left used entry a b h shown =
+  left_shown slot name used a b h shown =
       rw h.1 (left_kept used h.0 (seen_phase h.0 (by used h.2)) h.3)
     where
       held : (e : Entry)
@@ -195,11 +195,10 @@ module _ {T A : Type 0} (table : RuleTable T A) (one : clients_of table ≡ 1) w
       by : (used : Bool) → IsEvent table (release_done used 1 name h.0 (view a)) a b
           → phase_in h.0 ≡ phases.Shown
       by true event =
-          use_shown (view a).client name slot finds held.1 shown
-          (event_alone table one (spend_done 1 name h.0 (view a)) a b event)
+          use_shown (view a).client name slot finds held.1 shown (event_alone table one _ a b event)
       by false event =
           give_shown (view a).client name slot finds held.1 shown
-          (event_alone table one (give_done 1 name h.0 (view a)) a b event)
+          (event_alone table one _ a b event)
 
   -- A release that doesn't ask to erase, and that freed an entry: its slot showed nothing.
   pub unerased_hidden : (slot name charge : ℕ) (room used : Bool) (a b : SeatOf T)
@@ -210,6 +209,6 @@ module _ {T A : Type 0} (table : RuleTable T A) (one : clients_of table ≡ 1) w
       by : (o : Option Entry) → shown_at (world_at table a) slot ≡ o → o ≡ None
       by None is = refl
       by (Some entry) is =
-          let kept = left_shown slot name h.left used entry a h.between h.gives is in
+          let kept = left_shown slot name used a h.between h.gives is in
           let due = (and_parts room _ h.due).1 in
           absurd (cc)

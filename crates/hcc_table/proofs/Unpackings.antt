@@ -14,12 +14,13 @@ IsUnpacked words count upto old buffer =
     → buffer ≡ take upto value ++ drop upto old
 
 -- Those of one word more are there, once they were put behind the first.
-pub unpacks : (words : List ℕ) (count k few upto : ℕ) (old buffer new : List ℕ) → 0 < few
+pub unpacks : (words : List ℕ) {count : ℕ} (k few : ℕ) {upto : ℕ} (old : List ℕ) {buffer new : List
+    ℕ} → 0 < few
     → few ≤ 8 → upto ≡ 8 * k + few → upto ≤ count → IsUnpacked words count (8 * k) old buffer
     → new ≡ take (8 * k) buffer
     ++ (take few (to_le_bytes w64 (slice_index words k)) ++ drop (8 * k + few) buffer)
     → IsUnpacked words count upto old new
-unpacks words count k few upto old buffer new some most is within so_far put value long small has =
+unpacks words k few old {buffer} {new} some most is within so_far put value long small has =
     fills value old buffer new (8 * k) few inside (so_far value long small has)
     (put ∙ ap (λ z. take (8 * k) buffer ++ (z ++ drop (8 * k + few) buffer)) same)
     ∙ ap (λ n. take n value ++ drop n old) (sym is)
@@ -32,10 +33,11 @@ unpacks words count k few upto old buffer new some most is within so_far put val
         ∙ word_bytes value k few small most inside
 
 -- All of the value is there, before what stood behind.
-pub all_unpacked : (words : List ℕ) (count upto : ℕ) (old buffer value : List ℕ) → upto ≡ count
+pub all_unpacked : (words : List ℕ) {count upto : ℕ} (old : List ℕ) {buffer : List ℕ}
+    (value : List ℕ) → upto ≡ count
     → count ≡ length value → Each (λ b. b < 256) value → HasWords words value
     → IsUnpacked words count upto old buffer → buffer ≡ value ++ drop count old
-all_unpacked words count upto old buffer value is long small has there =
+all_unpacked words {count} old value is long small has there =
     there value long small has
     ∙ (ap (λ n. take n value ++ drop n old) is
     ∙ (ap (λ n. take n value ++ drop count old) long

@@ -23,19 +23,24 @@ use Rattle.hcc_core.specs.Trails.{is_slot, unpass_of}
 use Rattle.hcc_core.specs.World.{State, has_reference, slot_holding}
 use Rattle.hcc_core.proofs.Keeps.{found_ok, live_ok}
 use Rattle.hcc_core.proofs.ListLemmas.{read_here, read_other, read_same}
+use Rattle.hcc_rule.specs.declared.table.RuleTable.{RuleTable}
 use Rattle.hcc_rule.specs.declared.view.Done.{Done}
-use Rattle.hcc_rule.specs.Acts.{events_of}
+use Rattle.hcc_rule.specs.Acts.{events_of, past, world_of}
+use Rattle.hcc_rule.specs.Callers.{clients_of, plan_of, world_at}
+use Rattle.hcc_rule.specs.Opening.{begun_world}
+use Rattle.hcc_rule.specs.Seats.{SeatOf}
 use Rattle.hcc_rule.specs.Views.{Each}
-use Rattle.hcc_table.specs.Seeking.{is_settling, is_unpass}
+use Rattle.hcc_rule.proofs.Seats.Histories.{after_more}
+use Rattle.hcc_table.specs.Seeking.{GoesOnBy, is_settling, is_unpass}
 use Rattle.hcc_table.specs.Standing.{entry_shown, shown_at}
 use Rattle.hcc_table.proofs.Shown.{bound, ruled, same_outcome}
 
 -- Hiding.
 
-held_is : (b : Bool) (o : Option Entry) (e : Entry) → (if b then o else None) ≡ Some e
+held_is : (b : Bool) (o : Option Entry) {e : Entry} → (if b then o else None) ≡ Some e
     → o ≡ Some e
-held_is true o e is = is
-held_is false o e is = cc
+held_is true o is = is
+held_is false o is = cc
 
 -- whether it was shown, by the reply
 hid_is : (a b : Bool) → (if a then replies.Hid else replies.Again)
@@ -57,17 +62,17 @@ hidden_held client name (slots.Empty strays) = refl
 hidden_held client name (slots.Building other strays) = refl
 hidden_held client name (slots.Shareable r) = refl
 
-shown_before : (client name : ℕ) (seen : Slot) (entry : Entry) (b : Bool)
+shown_before : (client name : ℕ) (seen : Slot) {entry : Entry} (b : Bool)
     → entry_held client name seen ≡ Some entry
     → hidden seen ≡ (if b then replies.Hid else replies.Again)
     → entry_shown seen ≡ (if b then Some entry else None)
-shown_before client name (slots.Empty strays) entry b held reply =
-    let wrong = held_is (has_reference client name (slots.Empty strays)) None entry held in cc
-shown_before client name (slots.Building other strays) entry b held reply =
-    let wrong = held_is (has_reference client name (slots.Building other strays)) None entry held in
+shown_before client name (slots.Empty strays) {entry} b held reply =
+    let wrong = held_is (has_reference client name (slots.Empty strays)) None held in cc
+shown_before client name (slots.Building other strays) {entry} b held reply =
+    let wrong = held_is (has_reference client name (slots.Building other strays)) None held in
     cc
-shown_before client name (slots.Shareable r) entry b held reply =
-    let is = held_is (has_reference client name (slots.Shareable r)) (Some r.entry) entry held in
+shown_before client name (slots.Shareable r) {entry} b held reply =
+    let is = held_is (has_reference client name (slots.Shareable r)) (Some r.entry) held in
     let same : r.entry ≡ entry = cc in
     let shown : r.shown ≡ b = hid_is r.shown b reply in
     λ k. if shown k then Some (same k) else None
@@ -131,8 +136,7 @@ hide_tells w next client name slot b entry one later is held =
         before : shown_at w there ≡ (if b then Some entry else None)
         before =
             ap (option_and_then entry_shown) at
-            ∙ shown_before client name seen entry b
-            (sym (hidden_held client name seen)
+            ∙ shown_before client name seen b (sym (hidden_held client name seen)
             ∙ sym (ap (option_and_then (entry_held client name)) now)
             ∙ subst (λ s. held_at next client name s ≡ Some entry) (sym here) held)
             reply
@@ -180,6 +184,27 @@ free_tells w next client slot charge name is none =
 abbrev pub KeepsOwned : State → State → Type 0
 KeepsOwned w next = (next.slots ≡ w.slots) × ((c : ℕ) → owned_at next c ≡ owned_at w c)
 
+-- what each event of a kind keeps, all of them keep
+pub each_keeps : {kind : Event → Bool}
+    → ((w : State) (event : Event) → kind event ≡ true → KeepsOwned w (after w event))
+    → (ds : List Done) → Each (λ (done : Done). kind done.event ≡ true) ds
+    → (w : State) → KeepsOwned w (after_all w (events_of ds))
+each_keeps keeps [] only w = (refl, λ c. refl)
+each_keeps keeps (d ∷ ds) only w =
+    let first = keeps w d.event only.0 in
+    let rest = each_keeps keeps ds only.1 (after w d.event) in
+    (rest.0 ∙ first.0, λ c. rest.1 c ∙ first.1 c)
+
+-- so in a shard of one client does all that a call did of that kind
+pub goes_keep : {T A : Type 0} {table : RuleTable T A} {kind : Event → Bool}
+    → ((w : State) (event : Event) → kind event ≡ true → KeepsOwned w (after w event))
+    → clients_of table ≡ 1 → {a b : SeatOf T} → GoesOnBy table kind a b
+    → KeepsOwned (world_at table a) (world_at table b)
+goes_keep {table = table} keeps one {a} h =
+    subst (KeepsOwned (world_at table a)) (sym (ap (world_of (plan_of table)) h.goes_on
+    ∙ after_more (past a) h.more (begun_world (plan_of table))))
+    (each_keeps keeps h.more (h.alone one) (world_at table a))
+
 pub on_the_way : (w : State) {A : Type 0} (r : Result A CoreError) (f : A → Outcome)
     → ((x : A) → r ≡ Ok x → KeepsOwned w (world_after w (f x)))
     → KeepsOwned w (world_after w (r >>= f))
@@ -214,19 +239,11 @@ event_keeps w event h = by (in_range event)
     by true = h
     by false = (refl, λ c. refl)
 
-unpass_after : (w : State) (event : Event) → is_unpass event ≡ true
+pub unpass_after : (w : State) (event : Event) → is_unpass event ≡ true
     → KeepsOwned w (after w event)
 unpass_after w (events.Unpass client slot) is =
     event_keeps w (events.Unpass client slot) (unpass_keeps w client slot)
 unpass_after w other is = cc
-
-pub unpasses_keep : (ds : List Done) → Each (λ (done : Done). is_unpass done.event ≡ true) ds
-    → (w : State) → KeepsOwned w (after_all w (events_of ds))
-unpasses_keep [] only w = (refl, λ c. refl)
-unpasses_keep (d ∷ ds) only w =
-    let first = unpass_after w d.event only.0 in
-    let rest = unpasses_keep ds only.1 (after w d.event) in
-    (rest.0 ∙ first.0, λ c. rest.1 c ∙ first.1 c)
 
 -- What settles changes no slot.
 
@@ -262,21 +279,13 @@ settle_keeps w client =
           (live_ok w client found live) refl,
     )))
 
-settling_after : (w : State) (event : Event) → is_settling event ≡ true
+pub settling_after : (w : State) (event : Event) → is_settling event ≡ true
     → KeepsOwned w (after w event)
 settling_after w (events.Slots client) is =
     event_keeps w (events.Slots client) (slots_keep w client)
 settling_after w (events.Settle client) is =
     event_keeps w (events.Settle client) (settle_keeps w client)
 settling_after w other is = cc
-
-pub settling_keeps : (ds : List Done) → Each (λ (done : Done). is_settling done.event ≡ true) ds
-    → (w : State) → KeepsOwned w (after_all w (events_of ds))
-settling_keeps [] only w = (refl, λ c. refl)
-settling_keeps (d ∷ ds) only w =
-    let first = settling_after w d.event only.0 in
-    let rest = settling_keeps ds only.1 (after w d.event) in
-    (rest.0 ∙ first.0, λ c. rest.1 c ∙ first.1 c)
 
 -- To empty the slot that the client took changes nothing of what is shown.
 pub empty_tells : (w next : State) (client slot builder strays : ℕ)

@@ -21,9 +21,9 @@ use Rattle.hcc_table.proofs.Bytes.{fills, word_bytes}
 use Rattle.hcc_table.proofs.Finds.{seat_then}
 
 -- A word of the payload is the value's.
-pub value_word : (entry : Entry) (k word : ℕ) → 8 * k < length entry.value
+pub value_word : (entry : Entry) (k : ℕ) {word : ℕ} → 8 * k < length entry.value
     → IsDataWord entry (PAYLOAD + k) word → word ≡ payload_word entry.value k
-value_word entry k word within told = told (λ e. omega arith) inside ∙ at
+value_word entry k within told = told (λ e. omega arith) inside ∙ at
   where
     low : k < words_for (length entry.value)
     low = omega arith
@@ -46,10 +46,11 @@ pub told_word : (o : Option Record) (k word : ℕ)
     → IfSome o (λ r. IsDataWord r.entry (PAYLOAD + k) word)
     → IfSome o (λ r. 8 * k < length r.entry.value → word ≡ payload_word r.entry.value k)
 told_word None k word told = tt
-told_word (Some r) k word told = λ within. value_word r.entry k word within told
+told_word (Some r) k word told = λ within. value_word r.entry k within told
 
 -- The first bytes of a word were put in their place, which counts from a word before it.
-pub copied : (o : Option Record) (slot room first k count word : ℕ) (old new : List ℕ) → 0 < count
+pub copied : (o : Option Record) (slot room first k : ℕ) {count : ℕ} (word : ℕ) (old : List ℕ) {new
+    : List ℕ} → 0 < count
     → count ≤ 8
     → IsSomeAnd o (λ r. (r.slot ≡ slot) × IsReadable room r
     × (8 * (first + k) + count ≤ length r.entry.value))
@@ -57,8 +58,8 @@ pub copied : (o : Option Record) (slot room first k count word : ℕ) (old new :
     → word ≡ payload_word r.entry.value (first + k))
     → new ≡ take (8 * k) old ++ (take count (to_le_bytes w64 word) ++ drop (8 * k + count) old)
     → IfSome o (λ r. new ≡ put_in (8 * k) count (drop (8 * first) r.entry.value) old)
-copied None slot room first k count word old new some few holds told put = tt
-copied (Some r) slot room first k count word old new some few holds told put =
+copied None slot room first k word old some few holds told put = tt
+copied (Some r) slot room first k {count} word old some few holds told put =
     put ∙ ap (λ z. take (8 * k) old ++ (z ++ drop (8 * k + count) old)) same
   where
     inside : 8 * (first + k) < length r.entry.value
@@ -78,31 +79,30 @@ copied (Some r) slot room first k count word old new some few holds told put =
         ∙ ap (take count) moved)
 
 -- The value of an entry that was met or found can be read.
-pub readable_met : {T : Type 0} (fits : T → Key → List ℕ → Type 0) (room slot word : ℕ) (v : View T)
-    (r : Record)
+pub readable_met : {T : Type 0} {fits : T → Key → List ℕ → Type 0} {room slot word : ℕ} {v : View T}
+    {r : Record}
     → IsMet fits room slot word v r.entry → IsReadable room r
-readable_met fits room slot word v r met = record { short = met.short; bytes = met.bytes }
+readable_met met = record { short = met.short; bytes = met.bytes }
 
-pub readable_found : {T : Type 0} (fits : T → Key → List ℕ → Type 0) (room slot name : ℕ)
-    (key : Key) (v w : View T) (r : Record)
+pub readable_found : {T : Type 0} {fits : T → Key → List ℕ → Type 0} {room slot name : ℕ}
+    {key : Key} {v w : View T} {r : Record}
     → IsFound fits room slot name key v w r → IsReadable room r
-readable_found fits room slot name key v w r found =
-    record { short = found.short; bytes = found.bytes }
+readable_found found = record { short = found.short; bytes = found.bytes }
 
 -- It can be read by each record of it.
-pub readable_same : (room : ℕ) (q r : Record) → r.entry ≡ q.entry → IsReadable room q
+pub readable_same : {room : ℕ} {q r : Record} → r.entry ≡ q.entry → IsReadable room q
     → IsReadable room r
-readable_same room q r same h = record { short = rw same h.short; bytes = rw same h.bytes }
+readable_same same h = record { short = rw same h.short; bytes = rw same h.bytes }
 
 -- More of a part of the value was put behind what was there.
-filled : (o : Option Record) (from at count next len : ℕ) (old buffer new : List ℕ)
+filled : (o : Option Record) (from at count : ℕ) {next len : ℕ} (old buffer new : List ℕ)
     → next ≡ at + count → next ≤ len
     → IfSome o (λ r. from + len ≤ length r.entry.value)
     → IfSome o (λ r. buffer ≡ part_in from at r.entry.value old)
     → IfSome o (λ r. new ≡ put_in at count (drop from r.entry.value) buffer)
     → IfSome o (λ r. new ≡ part_in from next r.entry.value old)
-filled None from at count next len old buffer new sum most within was is = tt
-filled (Some r) from at count next len old buffer new sum most within was is =
+filled None from at count old buffer new sum most within was is = tt
+filled (Some r) from at count old buffer new sum most within was is =
     rw sum (fills (drop from r.entry.value) old buffer new at count
     (omega (arith, length-drop from r.entry.value)) was is)
 
@@ -126,27 +126,28 @@ module _ {T : Type 0} where
         (λ r. buffer ≡ part_in (8 * first) (8 * k) r.entry.value old)
 
   -- Some words more are there, once these were put behind the first.
-  pub reads_words : (name first len words : ℕ) (seat : SeatOf T) (old : List ℕ)
+  pub reads_words : {name first : ℕ} (len words : ℕ) {seat : SeatOf T} {old : List ℕ}
       → IfSome (record_in name (view seat).records)
       (λ r. 8 * first + len ≤ length r.entry.value)
-      → (k more : ℕ) (now next : SeatOf T) (buffer new : List ℕ) → more ≡ k + words
+      → {k more : ℕ} {now next : SeatOf T} {buffer new : List ℕ} → more ≡ k + words
       → more ≤ len / 8
       → IsReading name first k seat now old buffer → IsSameSeat now next → view next ≡ view now
       → IfSome (record_in name (view now).records)
       (λ r. new ≡ put_in (8 * k) (8 * words) (drop (8 * first) r.entry.value) buffer)
       → IsReading name first more seat next old new
-  reads_words name first len words seat old within k more now next buffer new is low s same kept
-      put =
+  reads_words {name} {first} len words {seat} {old} within {k} {more} {now} {next} {buffer} {new} is
+      low s same kept put =
       record {
         same = seat_then seat now next s.same same;
         kept = kept ∙ s.kept;
         front =
-            filled (record_in name (view seat).records) (8 * first) (8 * k) (8 * words) (8 * more)
-            len old buffer new (omega arith) (omega arith) within s.front (rw (← s.kept) put);
+            filled (record_in name (view seat).records) (8 * first) (8 * k) (8 * words) old buffer
+            new (omega arith) (omega arith) within s.front (rw (← s.kept) put);
       }
 
   -- The rest is less than a word.
-  pub reads_rest : (name first k len : ℕ) (seat now : SeatOf T) (old buffer new : List ℕ)
+  pub reads_rest : {name first k : ℕ} (len : ℕ) {seat now : SeatOf T} {old buffer : List ℕ}
+      (new : List ℕ)
       → k ≡ len / 8
       → IfSome (record_in name (view seat).records)
       (λ r. 8 * first + len ≤ length r.entry.value)
@@ -155,6 +156,6 @@ module _ {T : Type 0} where
       (λ r. new ≡ put_in (8 * (len / 8)) (len % 8) (drop (8 * first) r.entry.value) buffer)
       → IfSome (record_in name (view seat).records)
       (λ r. new ≡ part_in (8 * first) len r.entry.value old)
-  reads_rest name first k len seat now old buffer new at within s put =
-      filled (record_in name (view seat).records) (8 * first) (8 * (len / 8)) (len % 8) len len
-      old buffer new (omega arith) (omega arith) within (rw (← at) s.front) (rw (← s.kept) put)
+  reads_rest {name} {first} len {seat} {now} {old} {buffer} new at within s put =
+      filled (record_in name (view seat).records) (8 * first) (8 * (len / 8)) (len % 8) old buffer
+      new (omega arith) (omega arith) within (rw (← at) s.front) (rw (← s.kept) put)

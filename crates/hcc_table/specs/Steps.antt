@@ -58,10 +58,10 @@ module _ {T : Type 0} where
   Adds old new = (more : List Atomic) × (steps new ≡ steps old ++ more)
 
   -- The same, and none of them sets the hit bit of an entry.
-  abbrev pub AddsUnmarked : (old new : SeatOf T) → Type 0
-  AddsUnmarked old new =
-      (more : List Atomic) × (steps new ≡ steps old ++ more)
-      × Each (λ (step : Atomic). ¬ (step.first ≡ HIT_BIT)) more
+  pub record AddsUnmarked (old new : SeatOf T) : Type 0 where
+    pub more : List Atomic
+    pub adds : steps new ≡ steps old ++ more
+    pub unmarked : Each (λ (step : Atomic). ¬ (step.first ≡ HIT_BIT)) more
 
   -- this step first, and others behind it, or none
   abbrev pub Begins : (first : Atomic) → (old new : SeatOf T) → Type 0

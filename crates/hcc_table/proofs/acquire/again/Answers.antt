@@ -10,9 +10,7 @@ reach-found-requires-clause-reach g c =
 
 pub returns-clause-record : goal.returns-clause-record
 returns-clause-record g c =
-    let more =
-    one_more g.T.Tag.fits c.args.table.now.geometry.room c.args.pin.slot c.args.pin.name c.args.name
-    c.reach-found.result (view c.args.seat.now) (view c.reach-found.new.seat)
+    let more = one_more c.args.pin.name
     (pinned_on c.args.pin (view c.args.seat.now) c.requires.holds) c.reach-found.ensures.view in
     (more.0, more.1, (more.2, more.4, more.5 ∙ sym c.is_counting.ensures), more.3, more.6)
 

@@ -9,21 +9,17 @@ use Rattle.hcc_table.proofs.acquire.reach.Goals as goal
 
 pub relieve-requires-clause-holds : goal.relieve-requires-clause-holds
 relieve-requires-clause-holds g c =
-    relieves g.T.Tag.fits _ c.args.at.slot c.args.weight c.args.name _ _ _
-    c.acquire_at-found.ensures.view
-    (sym c.if-has_entry.ensures) c.requires.fresh (sym c.if-not-is_counting.ensures)
+    relieves c.acquire_at-found.ensures.view (sym c.if-has_entry.ensures) c.requires.fresh
+    (sym c.if-not-is_counting.ensures)
 
 pub returns-then-has_entry-clause-view : goal.returns-then-has_entry-clause-view
 returns-then-has_entry-clause-view g c =
-    reached_of g.T.Tag.fits c.args.table.now.geometry.room c.args.at.slot c.args.weight c.args.name
-    c.acquire_at-found.result (view c.args.seat.now) (view c.acquire_at-found.new.seat)
-    c.acquire_at-found.ensures.view (view c.relieve.new.seat) c.relieve.ensures.view
+    reached_of c.acquire_at-found.ensures.view c.relieve.ensures.view
 
 pub returns-then-has_entry-clause-acquires : goal.returns-then-has_entry-clause-acquires
 returns-then-has_entry-clause-acquires g c = record {
-  first = begins_then got c.args.seat.now c.acquire_at-found.new.seat c.relieve.new.seat
-      added.step (unmarked_adds c.acquire_at-found.new.seat c.relieve.new.seat
-      c.relieve.ensures.adds);
+  first = begins_then got c.args.seat.now c.acquire_at-found.new.seat c.relieve.new.seat added.step
+      (unmarked_adds c.relieve.ensures.adds);
   once = λ fresh.
       let none = c.relieve.ensures.passes (λ worn. fresh (
         sym c.if-has_entry.ensures,
@@ -67,13 +63,10 @@ returns-then-has_entry-clause-corrects g c = record {
 
 pub returns-then-has_entry-clause-adds : goal.returns-then-has_entry-clause-adds
 returns-then-has_entry-clause-adds g c =
-    unmarked_then c.args.seat.now c.acquire_at-found.new.seat c.relieve.new.seat
-    (unmarked_one _ c.args.seat.now c.acquire_at-found.new.seat c.acquire_at-found.ensures.step.step
-    (light c.args.weight c.requires.weight.1)) c.relieve.ensures.adds
+    unmarked_then (unmarked_one _ c.acquire_at-found.ensures.step.step (light c.requires.weight.1))
+    c.relieve.ensures.adds
 
 pub returns-else-not-is_counting-clause-view : goal.returns-else-not-is_counting-clause-view
 returns-else-not-is_counting-clause-view g c =
     let got = view c.acquire_at-found.new.seat in
-    reached_of g.T.Tag.fits c.args.table.now.geometry.room c.args.at.slot c.args.weight c.args.name
-    c.acquire_at-found.result (view c.args.seat.now) got c.acquire_at-found.ensures.view got
-    (searched_refl got)
+    reached_of c.acquire_at-found.ensures.view (searched_refl got)

@@ -34,8 +34,7 @@ returns-clause-past g c =
     ∙ c.read_own_at-2.ensures.view ∙ c.read_own_at.ensures.view in
     let client = ap (λ v. v.client) c.take_back.ensures.view ∙ ap (λ v. v.client) same in (
       e,
-      goes_then t is_unpass a d e
-          (goes_quiet t is_unpass a d (c.put_own.ensures.past
+      goes_then t is_unpass a d e (goes_quiet t is_unpass (c.put_own.ensures.past
           ∙ c.read_own_at-charge.ensures.event ∙ c.read_own_at-2.ensures.event
           ∙ c.read_own_at.ensures.event) same)
           c.take_back.ensures.past,

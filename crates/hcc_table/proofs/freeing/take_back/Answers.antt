@@ -9,8 +9,7 @@ pub loop-init : goal.loop-init
 loop-init g c =
     let table = c.args.table.now in
     let told = c.begin-walk.ensures in (
-      takes_back table.geometry.slots c.args.key c.args.slot c.begin-walk.result c.args.seat.now
-          table.limits.power c.requires.trail told.probe told.stride
+      takes_back table.limits.power c.requires.trail told.probe told.stride
           (rw (← c.geometry-slots.ensures) told.mask),
       omega arith,
       adds_none c.args.seat.now c.args.seat.now refl,
@@ -19,15 +18,13 @@ loop-init g c =
 
 pub returns-then-passed-slot-clause-view : goal.returns-then-passed-slot-clause-view
 returns-then-passed-slot-clause-view g c =
-    back c.args.table.now.geometry.slots c.args.key c.args.slot c.loop.counter c.slot-passed.result
-    c.loop.walk c.args.seat.now c.loop.seat c.loop.invariant.0 c.slot-passed.ensures
-    (rw (← c.geometry-slots.ensures) c.loop-test.true) c.if-passed-slot.true
+    back c.loop.invariant.0 c.slot-passed.ensures (rw (← c.geometry-slots.ensures) c.loop-test.true)
+    c.if-passed-slot.true
 
 pub unpass-requires-clause-passed : goal.unpass-requires-clause-passed
 unpass-requires-clause-passed g c =
-    stands c.args.table.now.geometry.slots c.args.key c.args.slot c.loop.counter
-    c.slot-passed.result c.loop.walk c.args.seat.now c.loop.seat c.loop.invariant.0
-    c.slot-passed.ensures (rw (← c.geometry-slots.ensures) c.loop-test.true) c.if-passed-slot.false
+    stands c.loop.invariant.0 c.slot-passed.ensures
+    (rw (← c.geometry-slots.ensures) c.loop-test.true) c.if-passed-slot.false
 
 pub loop-preserved : goal.loop-preserved
 loop-preserved g c =
@@ -35,19 +32,16 @@ loop-preserved g c =
     let table = c.args.table.now in
     let so_far = c.loop.invariant.1 in
     let one = c.unpass.ensures.step.1.one in
-    let back = goes_back c.args.table.now.geometry.slots c.args.key c.args.slot c.loop.counter
-    c.slot-passed.result c.loop.walk c.args.seat.now c.loop.seat c.loop.invariant.0
-    c.slot-passed.ensures (rw (← c.geometry-slots.ensures) c.loop-test.true)
-    c.if-passed-slot.false c.unpass.new.seat c.next-walk.result c.args.table.now.limits.power
-    c.unpass.ensures.seat c.unpass.ensures.view told.probe told.stride told.mask in (
+    let back = goes_back c.loop.invariant.0 c.slot-passed.ensures
+    (rw (← c.geometry-slots.ensures) c.loop-test.true) c.if-passed-slot.false
+    c.args.table.now.limits.power c.unpass.ensures.seat c.unpass.ensures.view told.probe told.stride
+    told.mask in (
       back,
-      (let less = shorter c.args.table.now.geometry.slots c.args.key c.args.slot c.loop.counter
-          c.slot-passed.result c.loop.walk c.args.seat.now c.loop.seat c.loop.invariant.0
-          c.slot-passed.ensures (rw (← c.geometry-slots.ensures) c.loop-test.true)
-          c.if-passed-slot.false c.unpass.new.seat c.next-walk.result back in
+      (let less = shorter c.loop.invariant.0 c.slot-passed.ensures
+          (rw (← c.geometry-slots.ensures) c.loop-test.true) c.if-passed-slot.false back in
           omega arith),
       adds_then c.args.seat.now c.loop.seat c.unpass.new.seat c.loop.invariant.2
           (adds_one _ c.loop.seat c.unpass.new.seat c.unpass.ensures.step.1.step),
-      goes_then table is_unpass c.args.seat.now c.loop.seat c.unpass.new.seat c.loop.invariant.3
+      goes_then table is_unpass _ _ _ c.loop.invariant.3
           (goes_event table is_unpass _ c.loop.seat c.unpass.new.seat c.unpass.ensures.event refl),
     )

@@ -10,22 +10,15 @@ use Rattle.hcc_table.proofs.freeing.try_free.Goals as goal
 
 pub returns-clause-taken : goal.returns-clause-taken
 returns-clause-taken g c =
-    taken_at g.T.Tag.fits c.args.table.now.geometry.slots c.args.table.now.geometry.room
-    c.args.at.slot c.free_at.result c.args.word c.free_taken_at.result c.args.name
-    (view c.args.seat.now) (view c.free_at.new.seat) (view c.free_taken_at.new.seat)
-    (eq-eqb c.free_at.result c.args.word c.if-free_at-word.false) c.free_at.ensures.view
+    taken_at (eq-eqb c.free_at.result c.args.word c.if-free_at-word.false) c.free_at.ensures.view
     c.free_taken_at.ensures.charge c.free_taken_at.ensures.view
 
 pub returns-clause-freed : goal.returns-clause-freed
 returns-clause-freed g c =
     freed g.T.Tag.fits c.args.table.now.geometry.slots c.args.table.now.geometry.room c.args.at.slot
-    c.args.word c.free_taken_at.result c.args.name (view c.args.seat.now) (view
-    c.free_taken_at.new.seat)
-    (taken_at g.T.Tag.fits c.args.table.now.geometry.slots c.args.table.now.geometry.room
-    c.args.at.slot c.free_at.result c.args.word c.free_taken_at.result c.args.name (view
-    c.args.seat.now)
-    (view c.free_at.new.seat) (view c.free_taken_at.new.seat)
-    (eq-eqb c.free_at.result c.args.word c.if-free_at-word.false) c.free_at.ensures.view
+    c.args.word c.free_taken_at.result c.args.name (view c.args.seat.now)
+    (view c.free_taken_at.new.seat)
+    (taken_at (eq-eqb c.free_at.result c.args.word c.if-free_at-word.false) c.free_at.ensures.view
     c.free_taken_at.ensures.charge c.free_taken_at.ensures.view)
 
 pub returns-clause-steps : goal.returns-clause-steps
@@ -36,27 +29,20 @@ returns-clause-steps g c =
     let got = c.free_at.ensures.view.won
     (eq-eqb c.free_at.result c.args.word c.if-free_at-word.false) in
     let trail = ap (λ (v : View g.row.T.Denot). length v.work.trail) got.3 in
-    let short = trail_short slots got.1.key c.args.at.slot c.args.table.now.limits.power
-    c.requires.at.0 in
+    let short = trail_short got.1.key c.args.table.now.limits.power c.requires.at.0 in
     omega arith
 
 pub returns-clause-by : goal.returns-clause-by
 returns-clause-by g c =
-    taken_by c.args.table.now c.args.at.slot c.args.word c.args.name c.args.seat.now
-    c.free_at.new.seat g.T.Tag.fits c.args.table.now.geometry.slots c.args.table.now.geometry.room
-    c.free_at.result c.free_taken_at.result c.free_taken_at.new.seat c.if-free_at-word.false
-    c.free_at.ensures.view c.free_taken_at.ensures.charge c.free_at.ensures.event
-    c.free_taken_at.ensures.past
+    taken_by c.if-free_at-word.false c.free_at.ensures.view c.free_taken_at.ensures.charge
+    c.free_at.ensures.event c.free_taken_at.ensures.past
 
 pub returns-then-free_at-word-clause-by : goal.returns-then-free_at-word-clause-by
-returns-then-free_at-word-clause-by g c =
-    lost_by c.args.table.now c.args.at.slot c.args.word c.args.name c.args.seat.now
-    c.free_at.new.seat c.free_at.result _ c.if-free_at-word.true c.free_at.ensures.event
+returns-then-free_at-word-clause-by g c = lost_by _ c.if-free_at-word.true c.free_at.ensures.event
 
 pub returns-then-free_at-word-clause-list : goal.returns-then-free_at-word-clause-list
 returns-then-free_at-word-clause-list g c =
-    hands_none (g.L.FreedList.shelf c.args.list.now)
-    (ap (λ (v : View g.row.T.Denot). v.gone)
+    hands_none (ap (λ (v : View g.row.T.Denot). v.gone)
     (c.free_at.ensures.view.lost (ne_eqb c.free_at.result c.args.word c.if-free_at-word.true)))
 
 pub free_taken_at-requires-clause-has : goal.free_taken_at-requires-clause-has
@@ -65,11 +51,9 @@ free_taken_at-requires-clause-has g c some =
     (eq-eqb c.free_at.result c.args.word c.if-free_at-word.false) in
     let right = subst (λ o. IfSome o (λ tag. IsRight g.T.Tag.fits tag (room_of c.args.table.now)
     got.1)) c.requires.seat.tagged got.2.right in
-    taken_word (slots_of c.args.table.now) c.args.at.slot c.free_at.result c.args.name got.0 got.1
-    (view c.args.seat.now) (view c.free_at.new.seat) (view c.free_at.new.seat) got.3
-    (room_of c.args.table.now)
-    (g.met.L.FreedList.whole c.args.list.now (plan_of c.args.table.now).tag got.1.key got.1.value
-    some right.fitting) right.short
+    taken_word (slots_of c.args.table.now) c.free_at.result c.args.name got.0 got.1
+    (view c.args.seat.now) (view c.free_at.new.seat) got.3 (g.met.L.FreedList.whole c.args.list.now
+    (plan_of c.args.table.now).tag got.1.key got.1.value some right.fitting) right.short
 
 pub returns-clause-list : goal.returns-clause-list
 returns-clause-list g c =
@@ -77,10 +61,8 @@ returns-clause-list g c =
     (eq-eqb c.free_at.result c.args.word c.if-free_at-word.false) in
     let right = subst (λ o. IfSome o (λ tag. IsRight g.T.Tag.fits tag (room_of c.args.table.now)
     got.1)) c.requires.seat.tagged got.2.right in
-    hands_taken (slots_of c.args.table.now) c.args.at.slot c.free_at.result c.args.name got.0 got.1
-    (view c.args.seat.now) (view c.free_at.new.seat) (view c.free_taken_at.new.seat) got.3
-    (g.L.FreedList.shelf c.args.list.now) (g.L.FreedList.shelf c.free_taken_at.new.list)
-    (λ some. g.met.L.FreedList.whole c.args.list.now (plan_of c.args.table.now).tag got.1.key
-    got.1.value some right.fitting)
+    hands_taken (slots_of c.args.table.now) c.free_at.result c.args.name got.0 got.1
+    (view c.args.seat.now) (view c.free_taken_at.new.seat) got.3 (λ some. g.met.L.FreedList.whole
+    c.args.list.now (plan_of c.args.table.now).tag got.1.key got.1.value some right.fitting)
     (ap (λ (v : View g.row.T.Denot). v.gone) c.free_taken_at.ensures.view)
     c.free_taken_at.ensures.list

@@ -10,25 +10,21 @@ use Rattle.hcc_table.proofs.hiding.hide_at.Goals as goal
 pub hide_held-requires-clause-holds : goal.hide_held-requires-clause-holds
 hide_held-requires-clause-holds g c =
     let found = c.in-Some.ensures.found in
-    found_holds g.T.Tag.fits c.args.table.now.geometry.room c.args.slot c.args.name c.args.key
-    (view c.args.seat.now) (view c.acquire_at.new.seat) found.0 c.requires.fresh found.1
+    found_holds c.requires.fresh found.1
 
 pub returns-in-Some-clause-view : goal.returns-in-Some-clause-view
 returns-in-Some-clause-view g c =
     let found = c.in-Some.ensures.found in
     let all = c.hide_held.result in
-    erased_there g.T.Tag.fits c.args.table.now.geometry.room c.args.slot c.args.name all.hidden
-    all.slots all.charge c.args.key (view c.args.seat.now) (view c.acquire_at.new.seat)
-    (view c.hide_held.new.seat) found.0 c.requires.fresh found.1 c.hide_held.ensures.few.1
-    c.hide_held.ensures.view c.hide_held.ensures.records
+    erased_there all.hidden all.slots all.charge (view c.hide_held.new.seat) c.requires.fresh
+    found.1 c.hide_held.ensures.few.1 c.hide_held.ensures.view c.hide_held.ensures.records
 
 pub returns-in-Some-clause-dead : goal.returns-in-Some-clause-dead
 returns-in-Some-clause-dead g c =
     let found = c.in-Some.ensures.found in
     let all = c.hide_held.result in
-    buried_there g.T.Tag.fits c.args.table.now.geometry.room c.args.slot c.args.name all.hidden
-    all.slots all.charge c.args.key (view c.args.seat.now) (view c.acquire_at.new.seat)
-    (view c.hide_held.new.seat) found.0 c.requires.fresh found.1 c.hide_held.ensures.view
+    buried_there all.hidden all.slots all.charge (view c.hide_held.new.seat) c.requires.fresh
+    found.1 c.hide_held.ensures.view
 
 pub returns-in-Some-clause-does : goal.returns-in-Some-clause-does
 returns-in-Some-clause-does g c =
@@ -41,9 +37,7 @@ returns-in-Some-clause-does g c =
         catches = c.in-Some.ensures.catches;
         holds =
             let found = c.in-Some.ensures.found in
-            found_asked g.T.Tag.fits c.args.table.now.geometry.room c.args.slot c.args.name
-            c.args.key (view c.args.seat.now) (view c.acquire_at.new.seat) found.0 c.requires.fresh
-            found.1;
+            found_asked c.requires.fresh found.1;
         entry = stamp_is _ mine c.hide_held.ensures.view;
         hides = c.hide_held.ensures.hides;
       }),
@@ -55,11 +49,8 @@ returns-in-None-clause-does g c =
     (c.in-None.ensures.passes.0, None, inl (c.in-None.ensures.passes.1, refl, refl), tt)
 
 pub returns-in-None-clause-view : goal.returns-in-None-clause-view
-returns-in-None-clause-view g c =
-    erased_none c.args.key (view c.args.seat.now) (view c.acquire_at.new.seat) c.requires.idle
-    c.in-None.ensures.missed.0
+returns-in-None-clause-view g c = erased_none c.requires.idle c.in-None.ensures.missed.0
 
 pub returns-in-None-clause-list : goal.returns-in-None-clause-list
 returns-in-None-clause-list g c =
-    hands_none (g.L.FreedList.shelf c.args.list.now)
-    (ap (λ (v : View g.row.T.Denot). v.gone) c.in-None.ensures.missed.0.searched.same)
+    hands_none (ap (λ (v : View g.row.T.Denot). v.gone) c.in-None.ensures.missed.0.searched.same)

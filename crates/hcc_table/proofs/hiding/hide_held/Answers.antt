@@ -41,19 +41,13 @@ returns-in-None-clause-hides g c = record {
 pub returns-in-None-clause-view : goal.returns-in-None-clause-view
 returns-in-None-clause-view g c =
     let u = (view c.free_last.new.seat) in
-    hidden_then c.args.slot c.args.name c.hide-found.result c.from-hidden.result
-    (view c.args.seat.now) (view c.hide-found.new.seat) (view c.give_at.new.seat)
-    c.requires.idle (c.from-hidden.ensures ∙ ap from_bool c.is_shown.ensures) c.requires.holds
-    c.hide-found.ensures.view
-    (searched_then (view c.hide-found.new.seat) u (view c.give_at.new.seat)
-    c.in-None.ensures.lost.searched
-    (given_at c.args.slot c.args.name c.give_at.result u (view c.give_at.new.seat)
-    c.give_at.ensures.view))
+    hidden_then c.args.slot c.args.name c.hide-found.result (view c.args.seat.now) c.requires.idle
+    (c.from-hidden.ensures ∙ ap from_bool c.is_shown.ensures) c.requires.holds
+    c.hide-found.ensures.view (searched_then _ u _ c.in-None.ensures.lost.searched (given_at
+    c.args.slot c.args.name c.give_at.result u (view c.give_at.new.seat) c.give_at.ensures.view))
 
 pub returns-in-Some-clause-view : goal.returns-in-Some-clause-view
 returns-in-Some-clause-view g c =
-    hidden_freed c.args.slot c.args.name c.hide-found.result c.from-hidden.result
-    c.in-Some.charge (view c.args.seat.now) (view c.hide-found.new.seat)
-    (view c.free_last.new.seat) c.requires.idle
+    hidden_freed c.args.slot c.args.name c.hide-found.result (view c.args.seat.now) c.requires.idle
     (c.from-hidden.ensures ∙ ap from_bool c.is_shown.ensures) c.requires.holds
     c.hide-found.ensures.view c.in-Some.ensures.freed.1

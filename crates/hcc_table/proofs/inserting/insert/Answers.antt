@@ -11,7 +11,7 @@ use Rattle.hcc_table.proofs.Seeking.{goes_none}
 use Rattle.hcc_table.proofs.Logs.{adds_none, adds_one, adds_then, among_after, among_then, ends_later}
 use Rattle.hcc_table.proofs.Rises.{took_none, took_next, took_within}
 use Rattle.hcc_rule.specs.declared.view.View.{View}
-use Rattle.hcc_table.specs.declared.inserting.Insertion.TheVariants.{Placed, Matched, NoSlot}
+use Rattle.hcc_table.proofs.Finds.{seat_then}
 use Rattle.hcc_table.proofs.InsertsSteps.{inserts_here, tried_none, tried_then}
 use Rattle.hcc_table.proofs.InsertsTries.{tries_first, probed_long, tries_placed, tries_matched, tries_last, tries_next}
 use Rattle.hcc_table.proofs.inserting.insert.Goals as goal
@@ -21,44 +21,14 @@ loop-slot-init g c =
     let table = c.args.table.now in
     let size = c.geometry-slots.ensures in
     let told = c.begin-walk.ensures in (
-      tries_first table.geometry.slots c.args.draft c.args.value.now table.limits.power
-          c.begin-walk.result
-          c.args.seat.now told.probe told.stride (rw (← size) told.mask) c.requires.trail,
+      tries_first table.geometry.slots c.args.draft c.args.value.now table.limits.power told.probe
+          told.stride (rw (← size) told.mask) c.requires.trail,
       took_none c.args.effort.now,
       omega arith,
       adds_none c.args.seat.now c.args.seat.now refl,
       tried_none g.T.Tag.fits table c.args.draft.key c.args.name c.args.draft.countdown
           c.args.effort.now c.args.seat.now,
     )
-
-pub returns-in-Placed-clause-view : goal.returns-in-Placed-clause-view
-returns-in-Placed-clause-view g c =
-    let table = c.args.table.now in
-    tries_placed table.geometry.slots c.args.draft c.args.value.now table.limits.power
-    c.loop-slot.passed c.slot-slot.result c.loop-slot.walk c.args.seat.now c.loop-slot.seat
-    c.loop-slot.invariant.0 c.slot-slot.ensures c.insert_at.new.seat c.insert_at.ensures.seat
-    c.in-Placed.slot c.in-Placed.ensures.view c.requires.trail
-
-pub returns-in-Matched-clause-view : goal.returns-in-Matched-clause-view
-returns-in-Matched-clause-view g c =
-    let table = c.args.table.now in
-    tries_matched table.geometry.slots c.args.draft c.args.value.now table.limits.power
-    c.loop-slot.passed c.slot-slot.result c.loop-slot.walk c.args.seat.now c.loop-slot.seat
-    c.loop-slot.invariant.0 c.slot-slot.ensures c.insert_at.new.seat c.insert_at.ensures.seat
-    c.take_back.new.seat c.in-Matched.ensures.view c.requires.trail c.take_back.ensures.view
-
-pub returns-then-passed-slots-clause-view : goal.returns-then-passed-slots-clause-view
-returns-then-passed-slots-clause-view g c =
-    let table = c.args.table.now in
-    let size = c.geometry-slots.ensures in
-    let told = c.in-NoSlot.ensures.view in
-    let least : table.geometry.slots ≡ c.loop-slot.passed + 1 =
-    rw (← size) (sym c.if-passed-slots.true) in
-    tries_last table.geometry.slots c.args.draft c.args.value.now table.limits.power
-    c.loop-slot.passed c.slot-slot.result c.loop-slot.walk c.args.seat.now c.loop-slot.seat
-    c.loop-slot.invariant.0 c.slot-slot.ensures c.insert_at.new.seat c.insert_at.ensures.seat
-    told.0 told.2 c.take_back-then-passed-slots.new.seat told.1 (sym least) c.requires.trail
-    c.take_back-then-passed-slots.ensures.view
 
 pub pass_at-requires-clause-room : goal.pass_at-requires-clause-room
 pass_at-requires-clause-room g c =
@@ -78,12 +48,9 @@ loop-slot-preserved g c =
     rw (← size) c.if-passed-slots.false in
     let inside = c.loop-slot.invariant.0.inside in (
       tries_next table.geometry.slots c.args.draft c.args.value.now table.limits.power
-          c.loop-slot.passed
-          c.slot-slot.result c.loop-slot.walk c.args.seat.now c.loop-slot.seat
-          c.loop-slot.invariant.0 c.slot-slot.ensures c.insert_at.new.seat c.insert_at.ensures.seat
-          told.0 told.2 c.pass_at.new.seat c.next-walk.result (omega arith) told.1
-          c.pass_at.ensures.seat
-          c.pass_at.ensures.view next.probe next.stride next.mask,
+          c.loop-slot.invariant.0 c.slot-slot.ensures c.insert_at.ensures.seat told.0 told.2
+          (omega arith) told.1 c.pass_at.ensures.seat c.pass_at.ensures.view next.probe next.stride
+          next.mask,
       visited,
       (let so_far = c.loop-slot.invariant.2 in let tried = c.in-NoSlot.ensures.steps in
           let one = c.pass_at.ensures.step.1.one in omega arith),
@@ -91,10 +58,7 @@ loop-slot-preserved g c =
           (adds_then c.args.seat.now c.loop-slot.seat c.insert_at.new.seat c.loop-slot.invariant.3
           c.insert_at.ensures.adds)
           (adds_one _ c.insert_at.new.seat c.pass_at.new.seat c.pass_at.ensures.step.1.step),
-      tried_then g.T.Tag.fits table c.args.draft.key c.args.name c.args.draft.countdown
-          c.loop-slot.passed c.slot-slot.result c.args.effort.now c.loop-slot.effort
-          c.probes.new.self c.insert_at.new.effort c.args.seat.now c.loop-slot.seat
-          c.insert_at.new.seat c.pass_at.new.seat c.loop-slot.invariant.4
+      tried_then c.loop-slot.invariant.4
           (c.slot-slot.ensures ∙ c.loop-slot.invariant.0.walking.probe)
           (c.probes.ensures.probes, c.probes.ensures.corrections, c.probes.ensures.lost)
           c.in-NoSlot.ensures.tries c.pass_at.ensures.step c.pass_at.ensures.view
@@ -105,200 +69,98 @@ loop-slot-preserved g c =
         c.args.effort.now c.insert_at.new.effort
     visited =
         let probe = c.probes.ensures in
-        took_next c.loop-slot.passed c.loop-slot.passed 1 (c.loop-slot.passed + 1) c.args.effort.now
-        c.loop-slot.effort c.probes.new.self c.insert_at.new.effort c.loop-slot.invariant.1
-        probe.probes probe.corrections probe.lost c.insert_at.ensures.effort (omega arith)
+        took_next c.loop-slot.passed c.loop-slot.passed 1 (c.loop-slot.passed + 1)
+        c.insert_at.new.effort c.loop-slot.invariant.1 probe.probes probe.corrections probe.lost
+        c.insert_at.ensures.effort (omega arith)
 
-pub returns-in-Placed-clause-effort : goal.returns-in-Placed-clause-effort
-returns-in-Placed-clause-effort g c =
+pub returns-in-Placed : goal.returns-in-Placed
+returns-in-Placed g c =
+    let table = c.args.table.now in
     let probe = c.probes.ensures in
-    let inside = c.loop-slot.invariant.0.inside in
-    took_within (c.loop-slot.passed + 1) (c.loop-slot.passed + 1) 1 c.args.table.now.geometry.slots
-    c.args.table.now.geometry.slots c.args.effort.now c.insert_at.new.effort (omega arith)
-    (omega arith) (omega arith)
-    (took_next c.loop-slot.passed c.loop-slot.passed 1 (c.loop-slot.passed + 1) c.args.effort.now
-    c.loop-slot.effort c.probes.new.self c.insert_at.new.effort c.loop-slot.invariant.1 probe.probes
-    probe.corrections probe.lost c.insert_at.ensures.effort (omega arith))
-
-pub returns-in-Matched-clause-effort : goal.returns-in-Matched-clause-effort
-returns-in-Matched-clause-effort g c =
-    let probe = c.probes.ensures in
-    let inside = c.loop-slot.invariant.0.inside in
-    took_within (c.loop-slot.passed + 1) (c.loop-slot.passed + 1) 1 c.args.table.now.geometry.slots
-    c.args.table.now.geometry.slots c.args.effort.now c.insert_at.new.effort (omega arith)
-    (omega arith) (omega arith)
-    (took_next c.loop-slot.passed c.loop-slot.passed 1 (c.loop-slot.passed + 1) c.args.effort.now
-    c.loop-slot.effort c.probes.new.self c.insert_at.new.effort c.loop-slot.invariant.1 probe.probes
-    probe.corrections probe.lost c.insert_at.ensures.effort (omega arith))
-
-pub returns-then-passed-slots-clause-effort : goal.returns-then-passed-slots-clause-effort
-returns-then-passed-slots-clause-effort g c =
-    let probe = c.probes.ensures in
-    let inside = c.loop-slot.invariant.0.inside in
-    took_within (c.loop-slot.passed + 1) (c.loop-slot.passed + 1) 1 c.args.table.now.geometry.slots
-    c.args.table.now.geometry.slots c.args.effort.now c.insert_at.new.effort (omega arith)
-    (omega arith) (omega arith)
-    (took_next c.loop-slot.passed c.loop-slot.passed 1 (c.loop-slot.passed + 1) c.args.effort.now
-    c.loop-slot.effort c.probes.new.self c.insert_at.new.effort c.loop-slot.invariant.1 probe.probes
-    probe.corrections probe.lost c.insert_at.ensures.effort (omega arith))
-
-pub returns-in-Placed-clause-steps : goal.returns-in-Placed-clause-steps
-returns-in-Placed-clause-steps g c =
-    let probe = c.probes.ensures in
-    let inside = c.loop-slot.invariant.0.inside in
+    let trying = c.loop-slot.invariant.0 in
+    let inside = trying.inside in
     let so_far = c.loop-slot.invariant.2 in
     let tried = c.in-Placed.ensures.steps in
+    let took = took_next c.loop-slot.passed c.loop-slot.passed 1 (c.loop-slot.passed + 1)
+    c.insert_at.new.effort c.loop-slot.invariant.1 probe.probes probe.corrections probe.lost
+    c.insert_at.ensures.effort (omega arith) in
     record {
-      visited = c.loop-slot.passed + 1;
-      within = omega arith;
-      counted = (took_next c.loop-slot.passed c.loop-slot.passed 1 (c.loop-slot.passed + 1)
-          c.args.effort.now c.loop-slot.effort c.probes.new.self c.insert_at.new.effort
-          c.loop-slot.invariant.1 probe.probes probe.corrections probe.lost
-          c.insert_at.ensures.effort (omega arith)).0;
-      steps = omega arith;
+      seat = seat_then _ _ _ trying.same c.insert_at.ensures.seat;
+      effort = took_within (omega arith) (omega arith) (omega arith) took;
+      view = tries_placed table.geometry.slots c.args.draft c.args.value.now table.limits.power
+          trying c.slot-slot.ensures c.insert_at.ensures.seat c.in-Placed.ensures.view
+          c.requires.trail;
+      placed = λ slot same. ends_later (atomic (address_of_meta table slot)
+          (first_word c.args.draft) 0 (first_word c.args.draft)) c.args.seat.now c.loop-slot.seat
+          c.insert_at.new.seat c.loop-slot.invariant.3
+          (c.insert_at.ensures.placed slot (c.in-Placed.is ∙ same));
+      matched = λ same. cc;
+      inserts = inserts_here c.loop-slot.invariant.4 (c.slot-slot.ensures ∙ trying.walking.probe)
+          (probe.probes, probe.corrections, probe.lost) c.in-Placed.ensures.tries (λ none. cc)
+          (λ slot same. refl) (adds_none c.insert_at.new.seat c.insert_at.new.seat refl)
+          (goes_none table is_unpass c.insert_at.new.seat c.insert_at.new.seat refl) (omega arith);
+      probes = (
+        c.loop-slot.passed,
+        ap (λ (z : View g.row.T.Denot). z.saw) c.in-Placed.ensures.view.1 ∙ trying.saw,
+        took.0,
+      );
+      steps = record {
+        visited = c.loop-slot.passed + 1;
+        within = omega arith;
+        counted = took.0;
+        steps = omega arith;
+      };
     }
 
-pub returns-in-Matched-clause-steps : goal.returns-in-Matched-clause-steps
-returns-in-Matched-clause-steps g c =
+pub returns-in-Matched : goal.returns-in-Matched
+returns-in-Matched g c =
+    let table = c.args.table.now in
     let probe = c.probes.ensures in
-    let inside = c.loop-slot.invariant.0.inside in
+    let trying = c.loop-slot.invariant.0 in
+    let inside = trying.inside in
     let so_far = c.loop-slot.invariant.2 in
     let tried = c.in-Matched.ensures.steps in
     let back = c.take_back.ensures.steps in
-    let long =
-    probed_long c.args.table.now.limits.power c.loop-slot.invariant.0
-    c.in-Matched.ensures.view.0 in
+    let long = probed_long table.limits.power trying c.in-Matched.ensures.view.0 in
+    let took = took_next c.loop-slot.passed c.loop-slot.passed 1 (c.loop-slot.passed + 1)
+    c.insert_at.new.effort c.loop-slot.invariant.1 probe.probes probe.corrections probe.lost
+    c.insert_at.ensures.effort (omega arith) in
     record {
-      visited = c.loop-slot.passed + 1;
-      within = omega arith;
-      counted = (took_next c.loop-slot.passed c.loop-slot.passed 1 (c.loop-slot.passed + 1)
-          c.args.effort.now c.loop-slot.effort c.probes.new.self c.insert_at.new.effort
-          c.loop-slot.invariant.1 probe.probes probe.corrections probe.lost
-          c.insert_at.ensures.effort (omega arith)).0;
-      steps = omega arith;
+      seat = seat_then _ _ _ (seat_then _ _ _ trying.same c.insert_at.ensures.seat)
+          c.take_back.ensures.seat;
+      effort = took_within (omega arith) (omega arith) (omega arith) took;
+      view = tries_matched table.geometry.slots c.args.draft c.args.value.now table.limits.power
+          trying c.slot-slot.ensures c.insert_at.ensures.seat c.take_back.new.seat
+          c.in-Matched.ensures.view c.requires.trail c.take_back.ensures.view;
+      placed = λ slot same. cc;
+      matched = λ _. (
+        c.slot-slot.result,
+        search rules,
+        (
+          used.0,
+          used.1,
+          over (atomic (address_of_meta table c.slot-slot.result) c.args.draft.countdown 0 used.0)
+              used.2,
+          over (atomic (address_of_meta table c.slot-slot.result)
+              (amount_of (is_counting used.0) c.args.draft.countdown) 0 used.1) used.3,
+        ),
+      );
+      inserts = inserts_here c.loop-slot.invariant.4 (c.slot-slot.ensures ∙ trying.walking.probe)
+          (probe.probes, probe.corrections, probe.lost) c.in-Matched.ensures.tries (λ none. cc)
+          (λ slot same. cc) c.take_back.ensures.adds c.take_back.ensures.past (omega arith);
+      probes = (
+        c.loop-slot.passed + 1,
+        ap (λ (z : View g.row.T.Denot). z.saw) c.take_back.ensures.view
+            ∙ (let one = c.in-Matched.ensures.view.1 in let old = trying.saw in omega arith),
+        took.0,
+      );
+      steps = record {
+        visited = c.loop-slot.passed + 1;
+        within = omega arith;
+        counted = took.0;
+        steps = omega arith;
+      };
     }
-
-pub returns-then-passed-slots-clause-steps : goal.returns-then-passed-slots-clause-steps
-returns-then-passed-slots-clause-steps g c =
-    let probe = c.probes.ensures in
-    let inside = c.loop-slot.invariant.0.inside in
-    let so_far = c.loop-slot.invariant.2 in
-    let tried = c.in-NoSlot.ensures.steps in
-    let back = c.take_back-then-passed-slots.ensures.steps in
-    let long =
-    probed_long c.args.table.now.limits.power c.loop-slot.invariant.0
-    c.in-NoSlot.ensures.view.0 in
-    record {
-      visited = c.loop-slot.passed + 1;
-      within = omega arith;
-      counted = (took_next c.loop-slot.passed c.loop-slot.passed 1 (c.loop-slot.passed + 1)
-          c.args.effort.now c.loop-slot.effort c.probes.new.self c.insert_at.new.effort
-          c.loop-slot.invariant.1 probe.probes probe.corrections probe.lost
-          c.insert_at.ensures.effort (omega arith)).0;
-      steps = omega arith;
-    }
-
-pub returns-in-Placed-clause-inserts : goal.returns-in-Placed-clause-inserts
-returns-in-Placed-clause-inserts g c =
-    inserts_here g.T.Tag.fits c.args.table.now c.args.draft.key c.args.name c.args.draft.countdown
-    c.loop-slot.passed c.slot-slot.result (Placed c.in-Placed.slot) c.args.effort.now
-    c.loop-slot.effort c.probes.new.self c.insert_at.new.effort c.args.seat.now c.loop-slot.seat
-    c.insert_at.new.seat c.insert_at.new.seat c.loop-slot.invariant.4
-    (c.slot-slot.ensures ∙ c.loop-slot.invariant.0.walking.probe)
-    (c.probes.ensures.probes, c.probes.ensures.corrections, c.probes.ensures.lost)
-    c.in-Placed.ensures.tries (λ none. cc) (λ slot same. refl)
-    (adds_none c.insert_at.new.seat c.insert_at.new.seat refl)
-    (goes_none c.args.table.now is_unpass c.insert_at.new.seat c.insert_at.new.seat refl)
-    (omega arith)
-
-pub returns-in-Matched-clause-inserts : goal.returns-in-Matched-clause-inserts
-returns-in-Matched-clause-inserts g c =
-    inserts_here g.T.Tag.fits c.args.table.now c.args.draft.key c.args.name c.args.draft.countdown
-    c.loop-slot.passed c.slot-slot.result Matched c.args.effort.now
-    c.loop-slot.effort c.probes.new.self c.insert_at.new.effort c.args.seat.now c.loop-slot.seat
-    c.insert_at.new.seat c.take_back.new.seat c.loop-slot.invariant.4
-    (c.slot-slot.ensures ∙ c.loop-slot.invariant.0.walking.probe)
-    (c.probes.ensures.probes, c.probes.ensures.corrections, c.probes.ensures.lost)
-    c.in-Matched.ensures.tries (λ none. cc) (λ slot same. cc) c.take_back.ensures.adds
-    c.take_back.ensures.past
-    (let back = c.take_back.ensures.steps in
-    let long =
-    probed_long c.args.table.now.limits.power c.loop-slot.invariant.0
-    c.in-Matched.ensures.view.0 in
-    omega arith)
-
-pub returns-then-passed-slots-clause-inserts : goal.returns-then-passed-slots-clause-inserts
-returns-then-passed-slots-clause-inserts g c =
-    let size = c.geometry-slots.ensures in
-    let least : c.args.table.now.geometry.slots ≡ c.loop-slot.passed + 1 =
-    rw (← size) (sym c.if-passed-slots.true) in
-    inserts_here g.T.Tag.fits c.args.table.now c.args.draft.key c.args.name c.args.draft.countdown
-    c.loop-slot.passed c.slot-slot.result NoSlot c.args.effort.now
-    c.loop-slot.effort c.probes.new.self c.insert_at.new.effort c.args.seat.now c.loop-slot.seat
-    c.insert_at.new.seat c.take_back-then-passed-slots.new.seat c.loop-slot.invariant.4
-    (c.slot-slot.ensures ∙ c.loop-slot.invariant.0.walking.probe)
-    (c.probes.ensures.probes, c.probes.ensures.corrections, c.probes.ensures.lost)
-    c.in-NoSlot.ensures.tries (λ none. sym least) (λ slot same. cc)
-    c.take_back-then-passed-slots.ensures.adds c.take_back-then-passed-slots.ensures.past
-    (let back = c.take_back-then-passed-slots.ensures.steps in
-    let long =
-    probed_long c.args.table.now.limits.power c.loop-slot.invariant.0
-    c.in-NoSlot.ensures.view.0 in
-    omega arith)
-
-pub returns-in-Placed-clause-probes : goal.returns-in-Placed-clause-probes
-returns-in-Placed-clause-probes g c = (
-  c.loop-slot.passed,
-  ap (λ (z : View g.row.T.Denot). z.saw) c.in-Placed.ensures.view.1 ∙ c.loop-slot.invariant.0.saw,
-  (took_next c.loop-slot.passed c.loop-slot.passed 1 (c.loop-slot.passed + 1)
-      c.args.effort.now c.loop-slot.effort c.probes.new.self c.insert_at.new.effort
-      c.loop-slot.invariant.1 c.probes.ensures.probes c.probes.ensures.corrections
-      c.probes.ensures.lost c.insert_at.ensures.effort (omega arith)).0,
-)
-
-pub returns-in-Matched-clause-probes : goal.returns-in-Matched-clause-probes
-returns-in-Matched-clause-probes g c = (
-  c.loop-slot.passed + 1,
-  ap (λ (z : View g.row.T.Denot). z.saw) c.take_back.ensures.view
-      ∙ (let one = c.in-Matched.ensures.view.1 in let old = c.loop-slot.invariant.0.saw in
-      omega arith),
-  (took_next c.loop-slot.passed c.loop-slot.passed 1 (c.loop-slot.passed + 1)
-      c.args.effort.now c.loop-slot.effort c.probes.new.self c.insert_at.new.effort
-      c.loop-slot.invariant.1 c.probes.ensures.probes c.probes.ensures.corrections
-      c.probes.ensures.lost c.insert_at.ensures.effort (omega arith)).0,
-)
-
-pub returns-then-passed-slots-clause-probes : goal.returns-then-passed-slots-clause-probes
-returns-then-passed-slots-clause-probes g c = (
-  c.loop-slot.passed + 1,
-  ap (λ (z : View g.row.T.Denot). z.saw) c.take_back-then-passed-slots.ensures.view
-      ∙ (let one = c.in-NoSlot.ensures.view.1 in let old = c.loop-slot.invariant.0.saw in
-      omega arith),
-  (took_next c.loop-slot.passed c.loop-slot.passed 1 (c.loop-slot.passed + 1)
-      c.args.effort.now c.loop-slot.effort c.probes.new.self c.insert_at.new.effort
-      c.loop-slot.invariant.1 c.probes.ensures.probes c.probes.ensures.corrections
-      c.probes.ensures.lost c.insert_at.ensures.effort (omega arith)).0,
-)
-
-pub returns-in-Placed-clause-placed : goal.returns-in-Placed-clause-placed
-returns-in-Placed-clause-placed g c slot same =
-    ends_later (atomic (address_of_meta c.args.table.now slot) (first_word c.args.draft) 0
-    (first_word c.args.draft)) c.args.seat.now c.loop-slot.seat c.insert_at.new.seat
-    c.loop-slot.invariant.3 (c.insert_at.ensures.placed slot (c.in-Placed.is ∙ same))
-
-pub returns-in-Matched-clause-matched : goal.returns-in-Matched-clause-matched
-returns-in-Matched-clause-matched g c _ = (
-  c.slot-slot.result,
-  search rules,
-  (
-    used.0,
-    used.1,
-    over (atomic (address_of_meta c.args.table.now c.slot-slot.result) c.args.draft.countdown 0
-        used.0) used.2,
-    over (atomic (address_of_meta c.args.table.now c.slot-slot.result)
-        (amount_of (is_counting used.0) c.args.draft.countdown) 0 used.1) used.3,
-  ),
-)
   where
     used : UsesUp (address_of_meta c.args.table.now c.slot-slot.result) c.args.draft.countdown
         c.loop-slot.seat c.insert_at.new.seat
@@ -310,3 +172,46 @@ returns-in-Matched-clause-matched g c _ = (
         among_then one c.args.seat.now c.insert_at.new.seat c.take_back.new.seat
         (among_after one c.args.seat.now c.loop-slot.seat c.insert_at.new.seat
         c.loop-slot.invariant.3 h) c.take_back.ensures.adds
+
+pub returns-then-passed-slots : goal.returns-then-passed-slots
+returns-then-passed-slots g c =
+    let table = c.args.table.now in
+    let probe = c.probes.ensures in
+    let trying = c.loop-slot.invariant.0 in
+    let inside = trying.inside in
+    let so_far = c.loop-slot.invariant.2 in
+    let told = c.in-NoSlot.ensures.view in
+    let tried = c.in-NoSlot.ensures.steps in
+    let taken = c.take_back-then-passed-slots.ensures in
+    let back = taken.steps in
+    let long = probed_long table.limits.power trying told.0 in
+    let size = c.geometry-slots.ensures in
+    let least : table.geometry.slots ≡ c.loop-slot.passed + 1 = rw (← size)
+    (sym c.if-passed-slots.true) in
+    let took = took_next c.loop-slot.passed c.loop-slot.passed 1 (c.loop-slot.passed + 1)
+    c.insert_at.new.effort c.loop-slot.invariant.1 probe.probes probe.corrections probe.lost
+    c.insert_at.ensures.effort (omega arith) in
+    record {
+      seat = seat_then _ _ _ (seat_then _ _ _ trying.same c.insert_at.ensures.seat) taken.seat;
+      effort = took_within (omega arith) (omega arith) (omega arith) took;
+      view = tries_last table.geometry.slots c.args.draft c.args.value.now table.limits.power trying
+          c.slot-slot.ensures c.insert_at.ensures.seat told.0 told.2
+          c.take_back-then-passed-slots.new.seat told.1 (sym least) c.requires.trail taken.view;
+      placed = λ slot same. cc;
+      matched = λ same. cc;
+      inserts = inserts_here c.loop-slot.invariant.4 (c.slot-slot.ensures ∙ trying.walking.probe)
+          (probe.probes, probe.corrections, probe.lost) c.in-NoSlot.ensures.tries
+          (λ none. sym least) (λ slot same. cc) taken.adds taken.past (omega arith);
+      probes = (
+        c.loop-slot.passed + 1,
+        ap (λ (z : View g.row.T.Denot). z.saw) taken.view
+            ∙ (let one = told.1 in let old = trying.saw in omega arith),
+        took.0,
+      );
+      steps = record {
+        visited = c.loop-slot.passed + 1;
+        within = omega arith;
+        counted = took.0;
+        steps = omega arith;
+      };
+    }

@@ -1,5 +1,5 @@
 use Rattle.std.proofs.Common.{◌≡◌, ◌+◌, ◌++◌, [], ◌∷◌, true, refl, sym, ap, ◌∙◌}
-use Rattle.hcc_word.specs.Word.{is_empty, is_visible}
+use Rattle.hcc_word.specs.Word.{is_empty}
 use Rattle.hcc_rule.specs.ToldOwners.{made_of}
 use Rattle.hcc_table.specs.Steps.{Adds}
 use Rattle.hcc_table.proofs.Logs.{adds_one, adds_then, among_after, begins_then, ends_adds}
@@ -25,8 +25,7 @@ returns-clause-tries g c = elim c.else-is_shown.branch [
         sym c.if-is_free.ensures,
         c.occupy_at-found.ensures.event,
       );
-      unshown = λ unseen. neither (is_visible c.occupy_at-found.result) (sym w.if-is_shown.ensures)
-          unseen;
+      unshown = λ unseen. neither _ (sym w.if-is_shown.ensures) unseen;
       shown = λ _. rw (w.seat-is, w.effort-is) (w.meet.ensures.passes w.if-meet.false).1;
     },
   )
@@ -42,8 +41,7 @@ returns-clause-tries g c = elim c.else-is_shown.branch [
         c.occupy_at-found.ensures.event,
       );
       unshown = λ _. (refl, w.effort-is, w.seat-is);
-      shown = λ shown. neither (is_visible c.occupy_at-found.result) shown
-          (sym w.if-is_shown.ensures);
+      shown = λ shown. neither _ shown (sym w.if-is_shown.ensures);
     },
   )
 ]
@@ -73,23 +71,19 @@ returns-clause-view g c = (tried.0, tried.1, buried)
     tried : Tried (view c.args.seat.now) (view c.else-is_shown.seat)
         × ((view c.else-is_shown.seat).saw ≡ (view c.args.seat.now).saw + 1)
     tried =
-        tried_there c.args.at.slot c.occupy_at-found.result (view c.args.seat.now)
-        (view c.occupy_at-found.new.seat) (view c.else-is_shown.seat) (sym c.if-is_free.ensures)
+        tried_there c.args.at.slot c.occupy_at-found.result (sym c.if-is_free.ensures)
         c.occupy_at-found.ensures.view kept
 
     buried : Buried c.args.draft.key (λ s. s ≡ c.args.at.slot) (view c.args.seat.now)
         (view c.else-is_shown.seat)
     buried = elim c.else-is_shown.branch [
-      | else-is_shown-via-then-is_shown+else-meet w ↦ rw w.seat-is
-          (shown_there c.args.draft.key c.args.at.slot c.occupy_at-found.result
-          (view c.args.seat.now) (view c.occupy_at-found.new.seat) (view w.meet.new.seat)
+      | else-is_shown-via-then-is_shown+else-meet w ↦ rw w.seat-is (shown_there c.args.draft.key
+          c.args.at.slot c.occupy_at-found.result (view c.args.seat.now) (view w.meet.new.seat)
           (sym c.if-is_free.ensures) c.occupy_at-found.ensures.view
           (w.meet.ensures.dead w.if-meet.false))
-      | else-is_shown-via-else-is_shown w ↦ rw w.seat-is
-          (unshown_there c.args.draft.key c.args.at.slot c.occupy_at-found.result (view
-          c.args.seat.now)
-          (view c.occupy_at-found.new.seat) (sym c.if-is_free.ensures) (sym w.if-is_shown.ensures)
-          c.occupy_at-found.ensures.backs c.occupy_at-found.ensures.view)
+      | else-is_shown-via-else-is_shown w ↦ rw w.seat-is (unshown_there c.args.draft.key
+          (sym c.if-is_free.ensures) (sym w.if-is_shown.ensures) c.occupy_at-found.ensures.backs
+          c.occupy_at-found.ensures.view)
     ]
 
 pub returns-then-meet-clause-view : goal.returns-then-meet-clause-view
@@ -102,8 +96,7 @@ returns-then-meet-clause-view g c = (
     tried : Tried (view c.args.seat.now) (view c.meet.new.seat)
         × ((view c.meet.new.seat).saw ≡ (view c.args.seat.now).saw + 1)
     tried =
-        tried_there c.args.at.slot c.occupy_at-found.result (view c.args.seat.now)
-        (view c.occupy_at-found.new.seat) (view c.meet.new.seat) (sym c.if-is_free.ensures)
+        tried_there c.args.at.slot c.occupy_at-found.result (sym c.if-is_free.ensures)
         c.occupy_at-found.ensures.view c.meet.ensures.view
 
     met : Meets c.args.draft.key (view c.occupy_at-found.new.seat) (view c.meet.new.seat)
@@ -111,7 +104,7 @@ returns-then-meet-clause-view g c = (
 
     same : (view c.occupy_at-found.new.seat).met ≡ (view c.args.seat.now).met
     same = occupy_meets c.args.at.slot c.occupy_at-found.result (view c.args.seat.now)
-        (view c.occupy_at-found.new.seat) (sym c.if-is_free.ensures) c.occupy_at-found.ensures.view
+        (sym c.if-is_free.ensures) c.occupy_at-found.ensures.view
 
 pub returns-then-meet-clause-matched : goal.returns-then-meet-clause-matched
 returns-then-meet-clause-matched g c _ =
@@ -140,8 +133,8 @@ returns-then-is_free-clause-tries g c = (
     empty = empty;
     took = c.occupy_at-found.new.seat;
     takes = c.occupy_at-found.ensures.event;
-    same = occupied_client c.args.at.slot c.occupy_at-found.result (view c.args.seat.now)
-        (view c.occupy_at-found.new.seat) empty c.occupy_at-found.ensures.view;
+    same = occupied_client c.args.at.slot c.occupy_at-found.result (view c.args.seat.now) empty
+        c.occupy_at-found.ensures.view;
     made = made_of c.args.draft c.args.value.now;
     asked = refl;
     called = c.args.draft.name;

@@ -1,5 +1,4 @@
-use Rattle.std.proofs.Common.{[], refl, sym, ap, ◌∙◌}
-use Rattle.hcc_word.specs.Word.{is_visible}
+use Rattle.std.proofs.Common.{refl, sym, ap, ◌∙◌}
 use Rattle.hcc_rule.specs.declared.view.View.{View}
 use Rattle.hcc_rule.specs.Seats.{view}
 use Rattle.hcc_table.specs.declared.keeping.AtSlot.TheVariants.{Nothing, Held}
@@ -27,9 +26,8 @@ returns-in-Some-clause-view g c =
 
 pub returns-in-Some-clause-list : goal.returns-in-Some-clause-list
 returns-in-Some-clause-list g c =
-    hands_none (g.L.FreedList.shelf c.args.list.now)
-    (ap (λ (v : View g.row.T.Denot). v.gone)
-    (returns-in-Some-clause-view g c).3.searched.same)
+    hands_none
+    (ap (λ (v : View g.row.T.Denot). v.gone) (returns-in-Some-clause-view g c).3.searched.same)
 
 pub returns-in-Some-clause-pins : goal.returns-in-Some-clause-pins
 returns-in-Some-clause-pins g c = record {
@@ -39,7 +37,7 @@ returns-in-Some-clause-pins g c = record {
   backs = c.look_at-seen.ensures.backs;
   all = c.look_at-seen.ensures.alone;
   shown = λ _. (c.in-Some.ensures.holds, refl);
-  unshown = λ off. neither (is_visible c.look_at-seen.result) (sym c.if-is_shown.ensures) off;
+  unshown = λ off. neither _ (sym c.if-is_shown.ensures) off;
 }
 
 pub returns-in-Some-clause-seeks : goal.returns-in-Some-clause-seeks
@@ -49,13 +47,12 @@ returns-in-Some-clause-seeks g c =
 
 pub returns-in-None-clause-view : goal.returns-in-None-clause-view
 returns-in-None-clause-view g c =
-    sought_then (view c.args.seat.now) (view c.look_at-seen.new.seat) (view c.hold_shown.new.seat)
-    (looked_at c.args.slot c.look_at-seen.result (view c.args.seat.now)
+    sought_then _ _ _ (looked_at c.args.slot c.look_at-seen.result (view c.args.seat.now)
     (view c.look_at-seen.new.seat) c.look_at-seen.ensures.view) c.in-None.ensures.none
 
 pub returns-in-None-clause-list : goal.returns-in-None-clause-list
 returns-in-None-clause-list g c =
-    hands_none (g.L.FreedList.shelf c.args.list.now)
+    hands_none
     (ap (λ (v : View g.row.T.Denot). v.gone) (returns-in-None-clause-view g c).searched.same)
 
 pub returns-in-None-clause-pins : goal.returns-in-None-clause-pins
@@ -66,7 +63,7 @@ returns-in-None-clause-pins g c = record {
   backs = c.look_at-seen.ensures.backs;
   all = c.look_at-seen.ensures.alone;
   shown = λ _. (c.in-None.ensures.holds, refl);
-  unshown = λ off. neither (is_visible c.look_at-seen.result) (sym c.if-is_shown.ensures) off;
+  unshown = λ off. neither _ (sym c.if-is_shown.ensures) off;
 }
 
 pub returns-in-None-clause-seeks : goal.returns-in-None-clause-seeks
@@ -80,9 +77,7 @@ returns-in-Some-free_hidden-clause-view g c =
     let looked = looked_at c.args.slot c.look_at-seen.result (view c.args.seat.now)
     (view c.look_at-seen.new.seat) c.look_at-seen.ensures.view in (
       told.freed.0,
-      erases_first [] 1 c.in-Some-free_hidden.charge (view c.args.seat.now)
-          (view c.look_at-seen.new.seat) (view c.free_hidden.new.seat) looked.searched
-          told.freed.1,
+      erases_first looked.searched told.freed.1,
       told.freed.2 ∙ looked.records,
       holds_nothing c.look_at-seen.ensures.backs
           (due_unheld (takes_one (g.L.FreedList.shelf c.args.list.now)) c.look_at-seen.result
@@ -91,14 +86,12 @@ returns-in-Some-free_hidden-clause-view g c =
 
 pub returns-in-None-free_hidden-clause-view : goal.returns-in-None-free_hidden-clause-view
 returns-in-None-free_hidden-clause-view g c =
-    sought_then (view c.args.seat.now) (view c.look_at-seen.new.seat) (view c.free_hidden.new.seat)
-    (looked_at c.args.slot c.look_at-seen.result (view c.args.seat.now)
+    sought_then _ _ _ (looked_at c.args.slot c.look_at-seen.result (view c.args.seat.now)
     (view c.look_at-seen.new.seat) c.look_at-seen.ensures.view) c.in-None-free_hidden.ensures.lost
 
 pub returns-in-None-free_hidden-clause-unmarked : goal.returns-in-None-free_hidden-clause-unmarked
 returns-in-None-free_hidden-clause-unmarked g c =
-    unmarked_then c.args.seat.now c.look_at-seen.new.seat c.free_hidden.new.seat
-    (unmarked_zero _ _ c.args.seat.now c.look_at-seen.new.seat c.look_at-seen.ensures.step)
+    unmarked_then (unmarked_zero c.look_at-seen.ensures.step)
     (frees_unmarked c.in-None-free_hidden.ensures.tries)
 
 pub returns-in-None-free_hidden-clause-seeks : goal.returns-in-None-free_hidden-clause-seeks
@@ -113,6 +106,6 @@ returns-in-None-free_hidden-clause-seeks g c =
       );
       backs = c.look_at-seen.ensures.backs;
       all = c.look_at-seen.ensures.alone;
-      shown = λ on. neither (is_visible c.look_at-seen.result) on (sym c.if-is_shown.ensures);
+      shown = λ on. neither _ on (sym c.if-is_shown.ensures);
       unshown = λ _. (refl, c.in-None-free_hidden.ensures.tries);
     }) refl

@@ -7,11 +7,11 @@ pub returns-clause-still : goal.returns-clause-still
 returns-clause-still g c table old new one goes = still_shows table one old new goes
 
 pub returns-clause-seeks : goal.returns-clause-seeks
-returns-clause-seeks g c table old new one seeks = alone_shows table one old new seeks
+returns-clause-seeks g c table old new one seeks = alone_shows table one seeks
 
 pub returns-clause-searches : goal.returns-clause-searches
 returns-clause-searches g c table key name marks answer before after old new one searches =
-    alone_shows table one old new
+    alone_shows table one
     (searches_seek g.T.Tag.fits table key name marks answer before after old new searches)
 
 pub returns-clause-releases : goal.returns-clause-releases

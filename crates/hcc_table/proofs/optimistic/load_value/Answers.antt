@@ -4,15 +4,14 @@ use Rattle.hcc_table.proofs.optimistic.load_value.Goals as goal
 
 pub returns-then-count-most-clause-loads : goal.returns-then-count-most-clause-loads
 returns-then-count-most-clause-loads g c =
-    peek_loads c.args.table.now c.args.at.slot c.args.seat.now c.peek_at-count.new.seat
+    peek_loads c.args.table.now c.args.at.slot c.peek_at-count.new.seat
     c.peek_at-count.ensures.event
 
 pub loop-four-init : goal.loop-four-init
 loop-four-init g c =
-    loaded_length c.args.table.now c.args.at.slot c.peek_at-count.result c.args.words.now
-    c.args.seat.now c.peek_at-count.new.seat c.peek_at-count.ensures.seat
-    c.peek_at-count.ensures.view c.peek_at-count.ensures.event
-    c.peek_at-count.ensures.step.one c.peek_at-count.ensures.word
+    loaded_length c.args.table.now c.args.at.slot c.peek_at-count.ensures.seat
+    c.peek_at-count.ensures.view c.peek_at-count.ensures.event c.peek_at-count.ensures.step.one
+    c.peek_at-count.ensures.word
 
 pub loop-part-preserved : goal.loop-part-preserved
 loop-part-preserved g c =
@@ -24,18 +23,14 @@ loop-part-preserved g c =
     subst (λ n. HasLoaded c.args.table.now c.args.at.slot c.peek_at-count.result n
     (slice_set c.loop-part.words index c.peek_at.result) c.args.seat.now c.peek_at.new.seat)
     (let next : index + 1 ≡ 4 * c.loop-four.four + (c.loop-part.part + 1) = omega arith in next)
-    (loaded_more c.args.table.now c.args.at.slot c.peek_at-count.result index
-    c.peek_at.result c.loop-part.words c.args.seat.now c.loop-part.seat
-    c.peek_at.new.seat c.loop-part.invariant inside told.seat told.view
-    told.event told.step.one told.word)
+    (loaded_more c.args.table.now c.args.at.slot c.peek_at.result c.loop-part.invariant inside
+    told.seat told.view told.event told.step.one told.word)
 
 pub loop-index-preserved : goal.loop-index-preserved
 loop-index-preserved g c =
     let told = c.peek_at-in-loop-index.ensures in
-    loaded_more c.args.table.now c.args.at.slot c.peek_at-count.result c.loop-index.index
-    c.peek_at-in-loop-index.result c.loop-index.words c.args.seat.now c.loop-index.seat
-    c.peek_at-in-loop-index.new.seat c.loop-index.invariant (omega arith) told.seat told.view
-    told.event told.step.one told.word
+    loaded_more c.args.table.now c.args.at.slot c.peek_at-in-loop-index.result
+    c.loop-index.invariant (omega arith) told.seat told.view told.event told.step.one told.word
 
 pub returns-clause-words : goal.returns-clause-words
 returns-clause-words g c j low =

@@ -5,7 +5,6 @@ use Rattle.hcc_core.specs.Lawful.{is_in}
 use Rattle.hcc_core.specs.Runs.{entry_at}
 use Rattle.hcc_rule.specs.declared.view.View.{View}
 use Rattle.hcc_rule.specs.Callers.{plan_of, room_of, world_at}
-use Rattle.hcc_rule.specs.Events.{peek_done}
 use Rattle.hcc_rule.specs.Seats.{SeatOf, made, view}
 use Rattle.hcc_rule.specs.ToldGlimpses.{IsRightEntry}
 use Rattle.hcc_rule.specs.Words.{words_for}
@@ -21,61 +20,49 @@ use Rattle.hcc_table.proofs.optimistic.read_there.Goals as goal
 
 pub returns-then-not-is_shown-clause-by : goal.returns-then-not-is_shown-clause-by
 returns-then-not-is_shown-clause-by g c =
-    (first_reads c.args.table.now c.args.at.slot c.glimpse_at-stamp.result c.glance_at-word.result
-    c.args.seat.now c.glimpse_at-stamp.new.seat c.glance_at-word.new.seat
+    (first_reads c.args.table.now c.args.at.slot c.glance_at-word.result c.glimpse_at-stamp.new.seat
     c.glimpse_at-stamp.ensures.view c.glimpse_at-stamp.ensures.event
     c.glance_at-word.ensures.event).0
 
 pub returns-then-not-shows_key-clause-by : goal.returns-then-not-shows_key-clause-by
 returns-then-not-shows_key-clause-by g c =
-    reads_then c.args.table.now c.args.seat.now c.glance_at-word.new.seat c.shows_key.new.seat
-    (first_reads c.args.table.now c.args.at.slot c.glimpse_at-stamp.result c.glance_at-word.result
-    c.args.seat.now c.glimpse_at-stamp.new.seat c.glance_at-word.new.seat
-    c.glimpse_at-stamp.ensures.view c.glimpse_at-stamp.ensures.event
+    reads_then c.args.table.now (first_reads c.args.table.now c.args.at.slot c.glance_at-word.result
+    c.glimpse_at-stamp.new.seat c.glimpse_at-stamp.ensures.view c.glimpse_at-stamp.ensures.event
     c.glance_at-word.ensures.event).0
-    (reads_kept c.args.table.now c.glance_at-word.new.seat c.shows_key.new.seat
-    c.shows_key.ensures.view c.shows_key.ensures.loads)
+    (reads_kept c.args.table.now c.shows_key.ensures.view c.shows_key.ensures.loads)
 
 pub returns-in_default-clause-by : goal.returns-in_default-clause-by
 returns-in_default-clause-by g c =
-    reads_then c.args.table.now c.args.seat.now c.glance_at-word.new.seat c.load_value.new.seat
-    (first_reads c.args.table.now c.args.at.slot c.glimpse_at-stamp.result c.glance_at-word.result
-    c.args.seat.now c.glimpse_at-stamp.new.seat c.glance_at-word.new.seat
-    c.glimpse_at-stamp.ensures.view c.glimpse_at-stamp.ensures.event
-    c.glance_at-word.ensures.event).0
-    (reads_kept c.args.table.now c.glance_at-word.new.seat c.load_value.new.seat
+    reads_then c.args.table.now (first_reads c.args.table.now c.args.at.slot c.glance_at-word.result
+    c.glimpse_at-stamp.new.seat c.glimpse_at-stamp.ensures.view c.glimpse_at-stamp.ensures.event
+    c.glance_at-word.ensures.event).0 (reads_kept c.args.table.now
     (c.load_value.ensures.view ∙ c.shows_key.ensures.view)
-    (loads_then c.args.table.now c.glance_at-word.new.seat c.shows_key.new.seat
-    c.load_value.new.seat c.shows_key.ensures.loads c.load_value.ensures.loads))
+    (loads_then c.args.table.now _ _ _ c.shows_key.ensures.loads c.load_value.ensures.loads))
 
 pub returns-then-recheck_at-stamp-clause-by : goal.returns-then-recheck_at-stamp-clause-by
 returns-then-recheck_at-stamp-clause-by g c =
-    all_reads c.args.table.now c.args.at.slot c.glimpse_at-stamp.result c.glance_at-word.result
-    c.glance_at-last.result c.args.seat.now c.glimpse_at-stamp.new.seat c.glance_at-word.new.seat
-    c.load_value.new.seat c.glance_at-last.new.seat c.recheck_at.new.seat
-    c.glimpse_at-stamp.ensures.view c.glimpse_at-stamp.ensures.event
-    c.glance_at-word.ensures.event (c.load_value.ensures.view ∙ c.shows_key.ensures.view)
-    (loads_then c.args.table.now c.glance_at-word.new.seat c.shows_key.new.seat
-    c.load_value.new.seat c.shows_key.ensures.loads c.load_value.ensures.loads)
+    all_reads c.args.table.now c.args.at.slot c.glance_at-word.result c.glance_at-last.result
+    c.glimpse_at-stamp.new.seat c.glance_at-last.new.seat c.glimpse_at-stamp.ensures.view
+    c.glimpse_at-stamp.ensures.event c.glance_at-word.ensures.event
+    (c.load_value.ensures.view ∙ c.shows_key.ensures.view)
+    (loads_then c.args.table.now _ _ _ c.shows_key.ensures.loads c.load_value.ensures.loads)
     c.glance_at-last.ensures.event c.recheck_at.ensures.view c.recheck_at.ensures.event
 
 pub returns-clause-by : goal.returns-clause-by
 returns-clause-by g c =
-    all_reads c.args.table.now c.args.at.slot c.glimpse_at-stamp.result c.glance_at-word.result
-    c.glance_at-last.result c.args.seat.now c.glimpse_at-stamp.new.seat c.glance_at-word.new.seat
-    c.load_value.new.seat c.glance_at-last.new.seat c.recheck_at.new.seat
-    c.glimpse_at-stamp.ensures.view c.glimpse_at-stamp.ensures.event
-    c.glance_at-word.ensures.event (c.load_value.ensures.view ∙ c.shows_key.ensures.view)
-    (loads_then c.args.table.now c.glance_at-word.new.seat c.shows_key.new.seat
-    c.load_value.new.seat c.shows_key.ensures.loads c.load_value.ensures.loads)
+    all_reads c.args.table.now c.args.at.slot c.glance_at-word.result c.glance_at-last.result
+    c.glimpse_at-stamp.new.seat c.glance_at-last.new.seat c.glimpse_at-stamp.ensures.view
+    c.glimpse_at-stamp.ensures.event c.glance_at-word.ensures.event
+    (c.load_value.ensures.view ∙ c.shows_key.ensures.view)
+    (loads_then c.args.table.now _ _ _ c.shows_key.ensures.loads c.load_value.ensures.loads)
     c.glance_at-last.ensures.event c.recheck_at.ensures.view c.recheck_at.ensures.event
 
 pub returns-clause-reads : goal.returns-clause-reads
 returns-clause-reads g c = (
   record {
     entry = entry;
-    asked = same_key entry c.args.key
-        (fact (λ e. e.key0 ≡ c.args.key.w0) seen keyed (seeks_none c.args.table.now seen)
+    asked = same_key entry (fact (λ e. e.key0 ≡ c.args.key.w0) seen keyed
+        (seeks_none c.args.table.now seen)
         (seeks_then c.args.table.now keyed loaded last to_loaded to_last) key.first)
         (fact (λ e. e.key1 ≡ c.args.key.w1) seen keyed (seeks_none c.args.table.now seen)
         (seeks_then c.args.table.now keyed loaded last to_loaded to_last) key.second);
@@ -87,16 +74,12 @@ returns-clause-reads g c = (
     glances = record {
       before = peeked;
       moment = seen;
-      is_moment = moment_of c.args.table.now
-          (peek_done c.args.at.slot c.glance_at-word.ensures.event.0 (view peeked))
-          c.args.seat.now peeked seen c.recheck_at.new.seat
-          (peek_led c.args.table.now c.args.at.slot c.args.seat.now peeked
+      is_moment = moment_of c.args.table.now (peek_led c.args.table.now c.args.at.slot peeked
           c.glimpse_at-stamp.ensures.event
           (ap (λ (v : View g.row.T.Denot). v.client) c.glimpse_at-stamp.ensures.view))
-          c.glance_at-word.ensures.event.2 refl refl
-          (seeks_then c.args.table.now seen keyed c.recheck_at.new.seat to_keyed
-          (seeks_then c.args.table.now keyed loaded c.recheck_at.new.seat to_loaded
-          (seeks_then c.args.table.now loaded last c.recheck_at.new.seat to_last to_end)));
+          c.glance_at-word.ensures.event.2 refl refl (seeks_then c.args.table.now seen keyed _
+          to_keyed (seeks_then c.args.table.now keyed loaded _ to_loaded
+          (seeks_then c.args.table.now loaded last _ to_last to_end)));
       loads = c.glance_at-word.ensures.step;
       visible = visible;
       shows = first.shows.1;
@@ -130,34 +113,28 @@ returns-clause-reads g c = (
 
     to_last : Seeks c.args.table.now loaded last
     to_last =
-        loads_seek c.args.table.now loaded last
-        (peek_loads c.args.table.now c.args.at.slot loaded last
+        loads_seek c.args.table.now loaded last (peek_loads c.args.table.now c.args.at.slot last
         (c.glance_at-last.ensures.event.0, c.glance_at-last.ensures.event.2))
 
     to_end : Seeks c.args.table.now last c.recheck_at.new.seat
     to_end =
-        loads_seek c.args.table.now last c.recheck_at.new.seat
-        (peek_loads c.args.table.now c.args.at.slot last c.recheck_at.new.seat
-        c.recheck_at.ensures.event)
+        loads_seek c.args.table.now last _ (peek_loads c.args.table.now c.args.at.slot
+        c.recheck_at.new.seat c.recheck_at.ensures.event)
 
     visible : is_visible c.glance_at-word.result ≡ true
     visible = sym c.is_shown.ensures ∙ c.if-not-is_shown.false
 
     first : FirstGlance c.args.table.now c.args.at.slot c.glimpse_at-stamp.result peeked seen
     first =
-        first_glance c.args.table.now c.args.at.slot c.glimpse_at-stamp.result
-        c.glance_at-word.result (view c.args.seat.now) peeked seen
+        first_glance c.args.table.now c.args.at.slot c.glance_at-word.result (view c.args.seat.now)
         c.glimpse_at-stamp.ensures.view c.glance_at-word.ensures.event visible
 
     again : ShowsStamp c.args.table.now c.args.at.slot first.stamp last
     again =
-        last_glance c.args.table.now c.args.at.slot first.stamp c.glance_at-last.result
-        c.recheck_at.result
-        (record { slot = c.args.at.slot; word = c.glimpse_at-stamp.result; stood = first.now })
-        loaded last
+        last_glance c.args.table.now c.args.at.slot c.glance_at-last.result loaded last
         (ap (λ (v : View g.row.T.Denot). v.glimpse)
-        (c.load_value.ensures.view ∙ (c.shows_key.ensures.view ∙ first.after)))
-        first.stood c.glance_at-last.ensures.event
+        (c.load_value.ensures.view ∙ (c.shows_key.ensures.view ∙ first.after))) first.stood
+        c.glance_at-last.ensures.event
         (sym c.is_shown-else-recheck_at-stamp.ensures ∙ c.if-not-is_shown-2.false)
         c.recheck_at.ensures.apart c.if-recheck_at-stamp.false
 
@@ -165,16 +142,15 @@ returns-clause-reads g c = (
     entry = first.shows.0
 
     here : entry_at (world_at c.args.table.now seen) c.args.at.slot ≡ Some entry
-    here = shown_stands (world_at c.args.table.now seen) c.args.at.slot entry first.shows.1
+    here = shown_stands (world_at c.args.table.now seen) c.args.at.slot first.shows.1
 
     -- what a load told is of this entry
     fact : (P : Entry → Type 0) (a b : SeatOf g.row.T.Denot) → Seeks c.args.table.now seen a
         → Seeks c.args.table.now b last → PeeksOnce c.args.table.now c.args.at.slot P a b
         → P entry
     fact P a b before behind told =
-        stood_between c.args.table.now c.args.at.slot P seen a b last entry again.0
-        c.glance_at-word.ensures.between before behind told here
-        (shown_stands (world_at c.args.table.now last) c.args.at.slot again.0 again.1)
+        stood_between c.args.table.now c.args.at.slot c.glance_at-word.ensures.between before behind
+        told here (shown_stands (world_at c.args.table.now last) c.args.at.slot again.1)
         (again.2 ∙ sym first.shows.2)
 
     key : PeeksKey c.args.table.now c.args.key c.args.at.slot seen keyed

@@ -14,27 +14,24 @@ pub returns-then-peek_at-key-clause-loads : goal.returns-then-peek_at-key-clause
 returns-then-peek_at-key-clause-loads g c =
     let one = c.peek_at in
     let two = c.peek_at-then-peek_at-key in
-    loads_then c.args.table.now c.args.seat.now one.new.seat two.new.seat
-    (peek_loads c.args.table.now c.args.at.slot c.args.seat.now one.new.seat one.ensures.event)
-    (peek_loads c.args.table.now c.args.at.slot one.new.seat two.new.seat two.ensures.event)
+    loads_then c.args.table.now _ _ _
+    (peek_loads c.args.table.now c.args.at.slot one.new.seat one.ensures.event)
+    (peek_loads c.args.table.now c.args.at.slot two.new.seat two.ensures.event)
 
 pub returns-then-peek_at-key-clause-equal : goal.returns-then-peek_at-key-clause-equal
 returns-then-peek_at-key-clause-equal g c same =
     let one = c.peek_at in
     let two = c.peek_at-then-peek_at-key in
-    finds_key c.args.table.now c.args.at.slot c.args.key one.result two.result c.args.seat.now
-    one.new.seat two.new.seat one.ensures.event two.ensures.event one.ensures.view
-    one.ensures.word two.ensures.word c.if-peek_at-key.true (eqb-true _ _ same)
+    finds_key c.args.table.now c.args.at.slot one.new.seat one.ensures.event two.ensures.event
+    one.ensures.view one.ensures.word two.ensures.word c.if-peek_at-key.true (eqb-true _ _ same)
 
 pub returns-then-peek_at-key-clause-other : goal.returns-then-peek_at-key-clause-other
 returns-then-peek_at-key-clause-other g c other =
     let one = c.peek_at in
     let two = c.peek_at-then-peek_at-key in (
-      second_differs c.args.table.now c.args.at.slot c.args.key two.result c.args.seat.now
-          one.new.seat two.new.seat one.ensures.event two.ensures.event one.ensures.view
-          two.ensures.word (eqb-false _ _ other),
-      second_held c.args.key c.args.at.slot two.result (view c.args.seat.now).records
-          (eqb-false _ _ other)
+      second_differs c.args.table.now c.args.at.slot one.new.seat one.ensures.event
+          two.ensures.event one.ensures.view two.ensures.word (eqb-false _ _ other),
+      second_held c.args.key c.args.at.slot (view c.args.seat.now).records (eqb-false _ _ other)
           (subst (λ (v : View g.row.T.Denot).
           Each (λ (r : Record). r.slot ≡ c.args.at.slot → IsDataWord r.entry KEY1 two.result)
           v.records) one.ensures.view two.ensures.held),
@@ -42,13 +39,12 @@ returns-then-peek_at-key-clause-other g c other =
 
 pub returns-else-peek_at-key-clause-loads : goal.returns-else-peek_at-key-clause-loads
 returns-else-peek_at-key-clause-loads g c =
-    peek_loads c.args.table.now c.args.at.slot c.args.seat.now c.peek_at.new.seat
-    c.peek_at.ensures.event
+    peek_loads c.args.table.now c.args.at.slot c.peek_at.new.seat c.peek_at.ensures.event
 
 pub returns-else-peek_at-key-clause-other : goal.returns-else-peek_at-key-clause-other
 returns-else-peek_at-key-clause-other g c other = (
-  first_differs c.args.table.now c.args.at.slot c.args.key c.peek_at.result c.args.seat.now
-      c.peek_at.new.seat c.peek_at.ensures.event c.peek_at.ensures.word (eqb-false _ _ other),
-  first_held c.args.key c.args.at.slot c.peek_at.result (view c.args.seat.now).records
-      (eqb-false _ _ other) c.peek_at.ensures.held,
+  first_differs c.args.table.now c.args.at.slot c.peek_at.ensures.event c.peek_at.ensures.word
+      (eqb-false _ _ other),
+  first_held c.args.key c.args.at.slot (view c.args.seat.now).records (eqb-false _ _ other)
+      c.peek_at.ensures.held,
 )

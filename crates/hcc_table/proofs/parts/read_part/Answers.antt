@@ -3,5 +3,5 @@ use Rattle.hcc_table.proofs.parts.read_part.Goals as goal
 
 pub returns-clause-seeks : goal.returns-clause-seeks
 returns-clause-seeks g c =
-    seeks_then c.args.table.now c.args.seat.now c.read_len-length.new.seat
-    c.copy_part-given.new.seat c.read_len-length.ensures.seeks c.copy_part-given.ensures.seeks
+    seeks_then c.args.table.now _ _ _ c.read_len-length.ensures.seeks
+    c.copy_part-given.ensures.seeks

@@ -9,14 +9,10 @@ loop-block-preserved g c =
     let low : c.loop-block.block < c.args.count / 8 / 32 = c.loop-block-test.true in
     let so_far = c.loop-block.invariant.1 in
     let all = told.steps in (
-      reads_words c.args.held.pin.name c.args.first c.args.count 32 c.args.seat.now
-          c.args.buffer.now c.requires.within (32 * c.loop-block.block)
-          (32 * (c.loop-block.block + 1)) c.loop-block.seat c.copy_lines.new.seat
-          c.loop-block.buffer c.copy_lines.new.buffer
-          (omega arith) (omega arith) c.loop-block.invariant.0 told.seat told.view told.bytes,
+      reads_words c.args.count 32 c.requires.within (omega arith) (omega arith)
+          c.loop-block.invariant.0 told.seat told.view told.bytes,
       omega arith,
-      seeks_then c.args.table.now c.args.seat.now c.loop-block.seat c.copy_lines.new.seat
-          c.loop-block.invariant.2 told.seeks,
+      seeks_then c.args.table.now _ _ _ c.loop-block.invariant.2 told.seeks,
     )
 
 pub loop-part-preserved : goal.loop-part-preserved
@@ -27,13 +23,10 @@ loop-part-preserved g c =
     let few : c.loop-part.part < 4 = c.loop-part-test.true in
     let so_far = c.loop-part.invariant.1 in
     let one = told.steps in (
-      reads_words c.args.held.pin.name c.args.first c.args.count 1 c.args.seat.now
-          c.args.buffer.now c.requires.within at (4 * c.loop-four.four + (c.loop-part.part + 1))
-          c.loop-part.seat c.copy_word.new.seat c.loop-part.buffer c.copy_word.new.buffer
-          (omega arith) (omega arith) c.loop-part.invariant.0 told.seat told.view told.bytes,
+      reads_words c.args.count 1 c.requires.within (omega arith) (omega arith)
+          c.loop-part.invariant.0 told.seat told.view told.bytes,
       omega arith,
-      seeks_then c.args.table.now c.args.seat.now c.loop-part.seat c.copy_word.new.seat
-          c.loop-part.invariant.2 told.seeks,
+      seeks_then c.args.table.now _ _ _ c.loop-part.invariant.2 told.seeks,
     )
 
 pub loop-index-preserved : goal.loop-index-preserved
@@ -41,26 +34,20 @@ loop-index-preserved g c =
     let told = c.copy_word-in-loop-index.ensures in
     let so_far = c.loop-index.invariant.1 in
     let one = told.steps in (
-      reads_words c.args.held.pin.name c.args.first c.args.count 1 c.args.seat.now
-          c.args.buffer.now c.requires.within c.loop-index.index (c.loop-index.index + 1)
-          c.loop-index.seat c.copy_word-in-loop-index.new.seat c.loop-index.buffer
-          c.copy_word-in-loop-index.new.buffer (omega arith) (omega arith)
+      reads_words c.args.count 1 c.requires.within (omega arith) (omega arith)
           c.loop-index.invariant.0 told.seat told.view told.bytes,
       omega arith,
-      seeks_then c.args.table.now c.args.seat.now c.loop-index.seat
-          c.copy_word-in-loop-index.new.seat c.loop-index.invariant.2 told.seeks,
+      seeks_then c.args.table.now _ _ _ c.loop-index.invariant.2 told.seeks,
     )
 
 pub returns-then-rest-gt0-clause-bytes : goal.returns-then-rest-gt0-clause-bytes
 returns-then-rest-gt0-clause-bytes g c =
     let ends = c.loop-index.auto.index-end (omega arith) in
     let at : c.loop-index.index ≡ c.args.count / 8 = omega (arith, c.loop-index-test.false, ends) in
-    reads_rest c.args.held.pin.name c.args.first c.loop-index.index c.args.count c.args.seat.now
-    c.loop-index.seat c.args.buffer.now c.loop-index.buffer c.copy_word-then-rest-gt0.new.buffer at
-    c.requires.within c.loop-index.invariant.0 c.copy_word-then-rest-gt0.ensures.bytes
+    reads_rest c.args.count c.copy_word-then-rest-gt0.new.buffer at c.requires.within
+    c.loop-index.invariant.0 c.copy_word-then-rest-gt0.ensures.bytes
 
 pub returns-then-rest-gt0-clause-seeks : goal.returns-then-rest-gt0-clause-seeks
 returns-then-rest-gt0-clause-seeks g c =
-    seeks_then c.args.table.now c.args.seat.now c.loop-index.seat
-    c.copy_word-then-rest-gt0.new.seat c.loop-index.invariant.2
+    seeks_then c.args.table.now _ _ _ c.loop-index.invariant.2
     c.copy_word-then-rest-gt0.ensures.seeks

@@ -13,24 +13,19 @@ returns-clause-bytes g c =
     put_turn at (drop (8 * c.args.first) value) buffer in
     some_last (record_in c.args.held.pin.name (view c.args.seat.now).records) c.args.held.pin.slot
     c.args.table.now.geometry.room c.args.first from c.args.buffer.now c.copy_turn-8.new.buffer
-    c.requires.space c.requires.holds
-    (puts_next (turn (from + 7)) c.copy_turn-8.ensures.view c.copy_turn-8.ensures.bytes
-    (puts_next (turn (from + 6)) c.copy_turn-7.ensures.view c.copy_turn-7.ensures.bytes
-    (puts_next (turn (from + 5)) c.copy_turn-6.ensures.view c.copy_turn-6.ensures.bytes
-    (puts_next (turn (from + 4)) c.copy_turn-5.ensures.view c.copy_turn-5.ensures.bytes
-    (puts_next (turn (from + 3)) c.copy_turn-4.ensures.view c.copy_turn-4.ensures.bytes
-    (puts_next (turn (from + 2)) c.copy_turn-3.ensures.view c.copy_turn-3.ensures.bytes
-    (puts_next (turn (from + 1)) c.copy_turn-2.ensures.view c.copy_turn-2.ensures.bytes
-    (puts_first (λ value. turn from value c.args.buffer.now) c.copy_turn.ensures.view
-    c.copy_turn.ensures.bytes)))))))).put
+    c.requires.space c.requires.holds (puts_next (turn (from + 7)) c.copy_turn-8.ensures.view
+    c.copy_turn-8.ensures.bytes (puts_next (turn (from + 6)) c.copy_turn-7.ensures.view
+    c.copy_turn-7.ensures.bytes (puts_next (turn (from + 5)) c.copy_turn-6.ensures.view
+    c.copy_turn-6.ensures.bytes (puts_next (turn (from + 4)) c.copy_turn-5.ensures.view
+    c.copy_turn-5.ensures.bytes (puts_next (turn (from + 3)) c.copy_turn-4.ensures.view
+    c.copy_turn-4.ensures.bytes (puts_next (turn (from + 2)) c.copy_turn-3.ensures.view
+    c.copy_turn-3.ensures.bytes (puts_next (turn (from + 1)) c.copy_turn-2.ensures.view
+    c.copy_turn-2.ensures.bytes
+    (puts_first c.copy_turn.ensures.view c.copy_turn.ensures.bytes)))))))).put
 
 pub returns-clause-seeks : goal.returns-clause-seeks
 returns-clause-seeks g c =
-    seeks_then c.args.table.now c.args.seat.now c.copy_turn-4.new.seat c.copy_turn-8.new.seat
-    (seeks_four c.args.table.now c.args.seat.now c.copy_turn.new.seat c.copy_turn-2.new.seat
-    c.copy_turn-3.new.seat c.copy_turn-4.new.seat c.copy_turn.ensures.seeks
+    seeks_then c.args.table.now _ _ _ (seeks_four c.args.table.now c.copy_turn.ensures.seeks
     c.copy_turn-2.ensures.seeks c.copy_turn-3.ensures.seeks c.copy_turn-4.ensures.seeks)
-    (seeks_four c.args.table.now c.copy_turn-4.new.seat c.copy_turn-5.new.seat
-    c.copy_turn-6.new.seat c.copy_turn-7.new.seat c.copy_turn-8.new.seat
-    c.copy_turn-5.ensures.seeks c.copy_turn-6.ensures.seeks c.copy_turn-7.ensures.seeks
-    c.copy_turn-8.ensures.seeks)
+    (seeks_four c.args.table.now c.copy_turn-5.ensures.seeks c.copy_turn-6.ensures.seeks
+    c.copy_turn-7.ensures.seeks c.copy_turn-8.ensures.seeks)

@@ -12,11 +12,9 @@ returns-clause-bytes g c =
     (puts_next (next (at + 24)) c.copy_word-4.ensures.view c.copy_word-4.ensures.bytes
     (puts_next (next (at + 16)) c.copy_word-3.ensures.view c.copy_word-3.ensures.bytes
     (puts_next (next (at + 8)) c.copy_word-2.ensures.view c.copy_word-2.ensures.bytes
-    (puts_first (λ value. next at value c.args.buffer.now) c.copy_word.ensures.view
-    c.copy_word.ensures.bytes)))).put
+    (puts_first c.copy_word.ensures.view c.copy_word.ensures.bytes)))).put
 
 pub returns-clause-seeks : goal.returns-clause-seeks
 returns-clause-seeks g c =
-    seeks_four c.args.table.now c.args.seat.now c.copy_word.new.seat c.copy_word-2.new.seat
-    c.copy_word-3.new.seat c.copy_word-4.new.seat c.copy_word.ensures.seeks
-    c.copy_word-2.ensures.seeks c.copy_word-3.ensures.seeks c.copy_word-4.ensures.seeks
+    seeks_four c.args.table.now c.copy_word.ensures.seeks c.copy_word-2.ensures.seeks
+    c.copy_word-3.ensures.seeks c.copy_word-4.ensures.seeks

@@ -3,5 +3,4 @@ use Rattle.hcc_table.proofs.readings.read_bytes.Goals as goal
 
 pub returns-clause-seeks : goal.returns-clause-seeks
 returns-clause-seeks g c =
-    seeks_then c.args.table.now c.args.seat.now c.read_len-length.new.seat c.copy_bytes.new.seat
-    c.read_len-length.ensures.seeks c.copy_bytes.ensures.seeks
+    seeks_then c.args.table.now _ _ _ c.read_len-length.ensures.seeks c.copy_bytes.ensures.seeks

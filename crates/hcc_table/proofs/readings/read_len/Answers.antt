@@ -4,5 +4,5 @@ use Rattle.hcc_table.proofs.readings.read_len.Goals as goal
 
 pub returns-clause-seeks : goal.returns-clause-seeks
 returns-clause-seeks g c =
-    seeks_read c.args.table.now c.args.held.pin.name (IsOf c.args.held.pin) c.args.seat.now
-    c.read_at.new.seat c.requires.holds c.read_at.ensures.event
+    seeks_read c.args.table.now c.args.held.pin.name (IsOf c.args.held.pin) c.requires.holds
+    c.read_at.ensures.event

@@ -13,4 +13,4 @@ returns-clause-word g c =
 pub returns-clause-seeks : goal.returns-clause-seeks
 returns-clause-seeks g c =
     seeks_read c.args.table.now c.args.held.pin.name (λ r. r.slot ≡ c.args.held.pin.slot)
-    c.args.seat.now c.read_at.new.seat c.requires.holds c.read_at.ensures.event
+    c.requires.holds c.read_at.ensures.event

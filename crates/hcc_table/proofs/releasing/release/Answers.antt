@@ -20,18 +20,9 @@ returns-then-is_free_to_go-clause-tried g c =
       c.let_go-left.result,
       c.let_go-left.new.seat,
       rw (← c.is_use-used.ensures) c.let_go-left.ensures.left,
-      tried_due (address_of_meta c.args.table.now c.args.pin.slot) c.let_go-left.result
-          (has_room 1 (g.L.FreedList.shelf c.args.list.now)
-          && is_due (erases c.args.last) c.let_go-left.result) c.args.effort.now
-          c.try_free.new.effort
-          c.let_go-left.new.seat c.try_free.new.seat _ _ c.try_free.result due
-          c.try_free.ensures.won c.try_free.ensures.lost c.try_free.ensures.tried,
+      tried_due _ _ due c.try_free.ensures.won c.try_free.ensures.lost c.try_free.ensures.tried,
       rw (← c.is_use-used.ensures) c.let_go-left.ensures.by,
-      (
-        (λ _. c.try_free.ensures.by),
-        (λ off. neither (has_room 1 (g.L.FreedList.shelf c.args.list.now)
-            && is_due (erases c.args.last) c.let_go-left.result) due off),
-      ),
+      ((λ _. c.try_free.ensures.by), (λ off. neither _ due off)),
     )
 
 pub returns-else-is_free_to_go-clause-tried : goal.returns-else-is_free_to_go-clause-tried
@@ -41,16 +32,9 @@ returns-else-is_free_to_go-clause-tried g c =
       c.let_go-left.result,
       c.let_go-left.new.seat,
       rw (← c.is_use-used.ensures) c.let_go-left.ensures.left,
-      not_due (address_of_meta c.args.table.now c.args.pin.slot) c.let_go-left.result
-          (has_room 1 (g.L.FreedList.shelf c.args.list.now)
-          && is_due (erases c.args.last) c.let_go-left.result) c.args.effort.now c.args.effort.now
-          c.let_go-left.new.seat c.let_go-left.new.seat due refl refl,
+      not_due due refl refl,
       rw (← c.is_use-used.ensures) c.let_go-left.ensures.by,
-      (
-        (λ on. neither (has_room 1 (g.L.FreedList.shelf c.args.list.now)
-            && is_due (erases c.args.last) c.let_go-left.result) on due),
-        (λ _. refl),
-      ),
+      ((λ on. neither _ on due), (λ _. refl)),
     )
 
 pub returns-then-is_free_to_go-clause-freed : goal.returns-then-is_free_to_go-clause-freed
@@ -60,13 +44,10 @@ returns-then-is_free_to_go-clause-freed g c =
     && is_due (erases c.args.last) c.let_go-left.result) ≡ true = cc in
     let given = given_at c.args.pin.slot c.args.pin.name left.found (view c.args.seat.now)
     (view c.let_go-left.new.seat) left.view in
-    freed_where_due g.T.Tag.fits (room_of c.args.table.now) (view c.args.seat.now)
-    (view c.let_go-left.new.seat) (view c.try_free.new.seat) given
-    (rw left.view refl) (rw left.view refl)
-    (address_of_meta c.args.table.now c.args.pin.slot) c.args.seat.now c.let_go-left.new.seat
-    c.try_free.new.seat (erases c.args.last) c.let_go-left.result _ c.try_free.result (and_parts _ _
-    due).1
-    (rw left.view refl)
+    freed_where_due g.T.Tag.fits (room_of c.args.table.now) (view c.try_free.new.seat) given
+    (rw left.view refl) (rw left.view refl) (address_of_meta c.args.table.now c.args.pin.slot)
+    c.args.seat.now c.let_go-left.new.seat c.try_free.new.seat (erases c.args.last)
+    c.let_go-left.result _ c.try_free.result (and_parts _ _ due).1 (rw left.view refl)
     (adds_one _ c.args.seat.now c.let_go-left.new.seat left.step.step) c.try_free.ensures.tried
     c.try_free.ensures.freed
 

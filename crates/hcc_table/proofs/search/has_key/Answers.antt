@@ -21,49 +21,37 @@ returns-then-read_at-key-clause-view g c =
 
 pub returns-then-read_at-key-clause-loads : goal.returns-then-read_at-key-clause-loads
 returns-then-read_at-key-clause-loads g c same =
-    loads_key c.args.table.now c.args.key c.args.at.slot c.read_at.result
-    c.read_at-then-read_at-key.result c.args.seat.now c.read_at.new.seat
-    c.read_at-then-read_at-key.new.seat c.read_at.ensures.step
+    loads_key c.args.table.now c.args.at.slot c.read_at.ensures.step
     c.read_at-then-read_at-key.ensures.step c.if-read_at-key.true (eqb-true _ _ same)
 
 pub returns-then-read_at-key-clause-differs : goal.returns-then-read_at-key-clause-differs
 returns-then-read_at-key-clause-differs g c other =
-    second_other c.args.table.now c.args.key c.args.at.slot c.read_at.result
-    c.read_at-then-read_at-key.result c.args.seat.now c.read_at.new.seat
-    c.read_at-then-read_at-key.new.seat c.read_at.ensures.step
+    second_other c.args.table.now c.args.at.slot c.read_at.ensures.step
     c.read_at-then-read_at-key.ensures.step (eqb-false _ _ other)
 
 pub returns-then-read_at-key-clause-adds : goal.returns-then-read_at-key-clause-adds
 returns-then-read_at-key-clause-adds g c =
-    unmarked_then c.args.seat.now c.read_at.new.seat c.read_at-then-read_at-key.new.seat
-    (unmarked_zero _ _ c.args.seat.now c.read_at.new.seat c.read_at.ensures.step)
-    (unmarked_zero _ _ c.read_at.new.seat c.read_at-then-read_at-key.new.seat
-    c.read_at-then-read_at-key.ensures.step)
+    unmarked_then (unmarked_zero c.read_at.ensures.step)
+    (unmarked_zero c.read_at-then-read_at-key.ensures.step)
 
 pub returns-else-read_at-key-clause-differs : goal.returns-else-read_at-key-clause-differs
 returns-else-read_at-key-clause-differs g c _ =
-    first_other c.args.table.now c.args.key c.args.at.slot c.read_at.result c.args.seat.now
-    c.read_at.new.seat c.read_at.ensures.step c.if-read_at-key.false
+    first_other c.args.table.now c.args.at.slot c.read_at.ensures.step c.if-read_at-key.false
 
 pub returns-else-read_at-key-clause-adds : goal.returns-else-read_at-key-clause-adds
-returns-else-read_at-key-clause-adds g c =
-    unmarked_zero _ _ c.args.seat.now c.read_at.new.seat c.read_at.ensures.step
+returns-else-read_at-key-clause-adds g c = unmarked_zero c.read_at.ensures.step
 
 pub returns-then-read_at-key-clause-seeks : goal.returns-then-read_at-key-clause-seeks
 returns-then-read_at-key-clause-seeks g c =
     seeks_then c.args.table.now c.args.seat.now c.read_at.new.seat
-    c.read_at-then-read_at-key.new.seat
-    (seeks_read c.args.table.now c.args.name (λ r. r.slot ≡ c.args.at.slot) c.args.seat.now
-    c.read_at.new.seat
-    c.requires.holds c.read_at.ensures.event)
-    (seeks_read c.args.table.now c.args.name (λ r. r.slot ≡ c.args.at.slot) c.read_at.new.seat
-    c.read_at-then-read_at-key.new.seat
-    (subst (λ rs. IsSomeAnd (record_in c.args.name rs) (λ r. r.slot ≡ c.args.at.slot))
-    (sym (read_there c.args.name KEY0 (view c.args.seat.now) (view c.read_at.new.seat)
+    c.read_at-then-read_at-key.new.seat (seeks_read c.args.table.now c.args.name
+    (λ r. r.slot ≡ c.args.at.slot) c.requires.holds c.read_at.ensures.event)
+    (seeks_read c.args.table.now c.args.name (λ r. r.slot ≡ c.args.at.slot) (subst
+    (λ rs. IsSomeAnd (record_in c.args.name rs) (λ r. r.slot ≡ c.args.at.slot)) (sym
+    (read_there c.args.name KEY0 (view c.args.seat.now) (view c.read_at.new.seat)
     c.read_at.ensures.view).records) c.requires.holds) c.read_at-then-read_at-key.ensures.event)
 
 pub returns-else-read_at-key-clause-seeks : goal.returns-else-read_at-key-clause-seeks
 returns-else-read_at-key-clause-seeks g c =
-    seeks_read c.args.table.now c.args.name (λ r. r.slot ≡ c.args.at.slot) c.args.seat.now
-    c.read_at.new.seat
-    c.requires.holds c.read_at.ensures.event
+    seeks_read c.args.table.now c.args.name (λ r. r.slot ≡ c.args.at.slot) c.requires.holds
+    c.read_at.ensures.event

@@ -1,12 +1,11 @@
-use Rattle.std.proofs.Common.{◌≡◌, ◌*◌, ◌+◌, ◌/◌, ◌%◌, ◌<◌, refl, arith}
+use Rattle.std.proofs.Common.{◌≡◌, ◌*◌, ◌/◌, ◌%◌, ◌<◌, refl, arith}
 use Rattle.hcc_table.proofs.Unpackings.{unpacks, all_unpacked}
 use Rattle.hcc_table.proofs.unpacking.unpack.Goals as goal
 
 pub loop-index-preserved : goal.loop-index-preserved
 loop-index-preserved c =
     let low : c.loop-index.index < c.args.count / 8 = c.loop-index-test.true in
-    unpacks c.args.words.now c.args.count c.loop-index.index 8 (8 * (c.loop-index.index + 1))
-    c.args.buffer.now c.loop-index.buffer c.put.new.buffer (omega arith) (omega arith)
+    unpacks c.args.words.now c.loop-index.index 8 c.args.buffer.now (omega arith) (omega arith)
     (omega arith) (omega arith) c.loop-index.invariant c.put.ensures
 
 pub returns-then-rest-gt0 : goal.returns-then-rest-gt0
@@ -16,10 +15,8 @@ returns-then-rest-gt0 c = record {
       = omega (arith, c.loop-index-test.false, c.loop-index.auto.index-end) in (
         long,
         c.if-buffer-count.false,
-        all_unpacked c.args.words.now c.args.count c.args.count c.args.buffer.now
-            c.put-then-rest-gt0.new.buffer value refl long small has
-            (unpacks c.args.words.now c.args.count (c.args.count / 8) (c.args.count % 8)
-            c.args.count c.args.buffer.now c.loop-index.buffer c.put-then-rest-gt0.new.buffer
+        all_unpacked c.args.words.now c.args.buffer.now value refl long small has
+            (unpacks c.args.words.now (c.args.count / 8) (c.args.count % 8) c.args.buffer.now
             c.if-rest-gt0.true (omega arith) (omega arith) (omega arith)
             (rw (← at) c.loop-index.invariant) c.put-then-rest-gt0.ensures),
       );
@@ -37,7 +34,7 @@ returns-else-rest-gt0 c = record {
       ) in (
         long,
         c.if-buffer-count.false,
-        all_unpacked c.args.words.now c.args.count (8 * c.loop-index.index) c.args.buffer.now
-            c.loop-index.buffer value at long small has c.loop-index.invariant,
+        all_unpacked c.args.words.now c.args.buffer.now value at long small has
+            c.loop-index.invariant,
       );
 }

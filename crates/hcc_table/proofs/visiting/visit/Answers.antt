@@ -52,8 +52,7 @@ returns-in-None-clause-visit g c = by c.sweep.result c.sweep.ensures.visit
               c.args.seat.now c.look_at-word.new.seat c.sweep.new.seat
               c.look_at-word.ensures.step.step
               lost.2.step,
-          sought_then (view c.args.seat.now) (view c.look_at-word.new.seat) (view c.sweep.new.seat)
-              looked swept.1,
+          sought_then _ _ _ looked swept.1,
           search rules,
           search rules,
         )
@@ -63,11 +62,9 @@ returns-in-None-clause-visit g c = by c.sweep.result c.sweep.ensures.visit
           c.args.seat.now c.look_at-word.new.seat c.sweep.new.seat c.look_at-word.ensures.step.step
           swept.0,
       swept.1,
-      freed_after g.T.Tag.fits room (view c.args.seat.now) (view c.look_at-word.new.seat)
-          (view c.sweep.new.seat) looked.searched
+      freed_after g.T.Tag.fits room (view c.sweep.new.seat) looked.searched
           (ap (λ (v : View g.row.T.Denot). v.met) c.look_at-word.ensures.view)
-          (ap (λ (v : View g.row.T.Denot). v.glimpse) c.look_at-word.ensures.view) word charge
-          swept.2,
+          (ap (λ (v : View g.row.T.Denot). v.glimpse) c.look_at-word.ensures.view) swept.2,
       search rules,
       search rules,
       search rules,
@@ -78,12 +75,10 @@ returns-in-None-clause-visit g c = by c.sweep.result c.sweep.ensures.visit
 
 pub returns-in-Some-clause-list : goal.returns-in-Some-clause-list
 returns-in-Some-clause-list g c =
-    hands_none (g.L.FreedList.shelf c.args.list.now)
-    (counted_none (address_of_meta c.args.table.now c.args.slot) c.look_at-word.result
+    hands_none (counted_none (address_of_meta c.args.table.now c.args.slot) c.look_at-word.result
     c.count_down.result c.look_at-word.new.seat c.count_down.new.seat c.count_down.ensures.visit
     ∙ ap (λ (v : View g.row.T.Denot). v.gone) c.look_at-word.ensures.view)
 
 pub returns-then-refs-ne0-clause-list : goal.returns-then-refs-ne0-clause-list
 returns-then-refs-ne0-clause-list g c =
-    hands_none (g.L.FreedList.shelf c.args.list.now)
-    (ap (λ (v : View g.row.T.Denot). v.gone) c.look_at-word.ensures.view)
+    hands_none (ap (λ (v : View g.row.T.Denot). v.gone) c.look_at-word.ensures.view)
