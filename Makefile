@@ -4,14 +4,15 @@
 #                                       and the Rust crate; DESTDIR= goes before all paths
 #   make dist                           out/ferretgold-VERSION-MACHINE.tar.gz: the same for whoever has
 #                                       no Rattle, with the verdict's line and each file's SHA-256
-# Each with TARGET=aarch64-unknown-linux-gnu for that processor, once `tests/c/library.sh TARGET` has run.
+# Each with TARGET=aarch64-unknown-linux-gnu for that processor, once `tests/c/library.sh TARGET` has run;
+# and with LATE=1 for what musl's loader loads while a program runs.
 PREFIX ?= /usr/local
 INCLUDEDIR ?= $(PREFIX)/include
 LIBDIR ?= $(PREFIX)/lib
 DATADIR ?= $(PREFIX)/share/ferretgold
 DESTDIR ?=
 TARGET ?=
-OUT ?= src/out$(TARGET:%=/%)
+OUT ?= src/out$(TARGET:%=/%)$(if $(LATE),/late)
 DIST ?= out
 # Of what `rt lib` prints the line that begins with logic=proved; tests/c/library.sh keeps it here.
 VERDICT ?= crates/hcc_c/out$(TARGET:%=/%)/verdict

@@ -60,7 +60,7 @@ enum { NOBODY = 0, CLAIMED = 1 };
 
 struct ferretgold_object_cache {
     _Alignas(LINE) uint64_t life; /* a number that no other cache of the process has */
-    ptrdiff_t home;               /* of the cell where a thread looks for it, from its pointer */
+    ptrdiff_t home;               /* of the cell where a thread looks for it, from its base */
     object_client *client;
     uint32_t number; /* the proved cache's, which its handles have */
     ferretgold_deleter deleter;
@@ -96,7 +96,16 @@ typedef struct object_thread {
     uint32_t turn;   /* which cell goes to another cache next */
 } object_thread;
 
-extern _Thread_local object_thread object_self __attribute__((tls_model("initial-exec")));
+/* Where its thread finds that: at one distance from the thread pointer, which saves a load in each call;
+ * in a library for loaders that keep no room for what is loaded late, where the loader says. */
+#ifdef FERRETGOLD_LATE
+#define THREAD_MODEL
+#define THREAD_BASE ((char *)&object_self)
+#else
+#define THREAD_MODEL __attribute__((tls_model("initial-exec")))
+#define THREAD_BASE ((char *)__builtin_thread_pointer())
+#endif
+extern _Thread_local object_thread object_self THREAD_MODEL;
 
 /* ---- object_clients.c ------------------------------------------------------------------------ */
 
@@ -216,7 +225,7 @@ static inline bool is_in_call(const object_cell *it) {
 }
 
 static inline object_cell *cell_at_home(const ferretgold_object_cache *cache) {
-    return (object_cell *)(void *)((char *)__builtin_thread_pointer() + cache->home);
+    return (object_cell *)(void *)(THREAD_BASE + cache->home);
 }
 
 static inline object_cell *cell_of(const ferretgold_object_cache *cache) {

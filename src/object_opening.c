@@ -61,7 +61,7 @@ static ferretgold_object_cache *made(const ferretgold_object_config *config) {
     memset(it, 0, size);
     it->config = *config;
     it->life = atomic_fetch_add(&lives, 1) + 1;
-    it->home = (char *)&object_self.cell[it->life % CELLS] - (char *)__builtin_thread_pointer();
+    it->home = (char *)&object_self.cell[it->life % CELLS] - THREAD_BASE;
     it->client = (object_client *)(void *)(it + 1);
     it->spare = (record *)(void *)&it->client[config->clients];
     record *records = it->spare + config->clients;

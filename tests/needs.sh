@@ -43,8 +43,8 @@ may "tests/c/file.sh will be skipped, and parts of other scripts" libxxhash-dev 
 may "tests/c/arm.sh will be skipped" \
     "--no-install-recommends qemu-user gcc-aarch64-linux-gnu libc6-dev-arm64-cross" \
     aarch64-linux-gnu-gcc qemu-aarch64
-may "parts of tests/install/run.sh will be skipped" "--no-install-recommends cmake pkg-config" \
-    cmake pkg-config
+may "parts of tests/install/run.sh will be skipped" "--no-install-recommends cmake pkg-config musl-tools" \
+    cmake pkg-config musl-gcc
 mapfile -t missing < <(lacking "${must[@]}")
 [[ ${#missing[@]} == 0 ]] && exit
 echo "needs: missing: ${missing[*]}: apt-get install ${packages[*]}"

@@ -115,6 +115,18 @@ is_unpacked() (
         && sed 's/^[^ ]*  //' SHA256SUMS | sort | cmp - ../files
 )
 
+# What is loaded while a program runs, five times, with the library inside, by the C library of a compiler:
+# loads_late COMPILER.. Each copy has memory of each thread, for which musl's loader keeps no room.
+loads_late() {
+    local it copies=()
+    make -s -C src LATE=1 OUT="$folder/late" PROVED="$proved" || return
+    for it in 1 2 3 4 5; do
+        copies+=("$folder/late/$it.so")
+        "$@" -shared -fPIC -Iinclude tests/install/late.c "$folder/late/libferretgold.a" -o "$folder/late/$it.so" || return
+    done
+    "$@" -DHOST tests/install/late.c -ldl -o "$folder/late/host" && "$folder/late/host" "${copies[@]}"
+}
+
 PATH=$(without_rattle)
 export PATH
 tries "make install" is_installed
@@ -147,4 +159,6 @@ tries_with python3 "the shared library's functions" python3 tests/install/shared
 tries "make dist, twice" is_packed_alike
 tries "the archive" is_unpacked
 tries_with pkg-config "C, by the archive" by_pkg_config "$folder/unpacked"
+tries "C, loaded late" loads_late cc
+tries_with musl-gcc "C, loaded late by musl" loads_late musl-gcc
 counted "install: $skipped skipped"
